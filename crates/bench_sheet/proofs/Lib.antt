@@ -1,0 +1,2 @@
+-- Claim: every line of the sheet holds.
+pub mod Claim

@@ -1,0 +1,47 @@
+-- `doors::count_number`: its two arms. Assumes nothing.
+use mathlib.Core.Path.{sym, ap}
+use borrow.Author.Needs.{needs}
+use Rattle.refusal.specs.declared.Counted.{Counted}
+use Rattle.refusal.specs.Answer.{countSaid}
+use Rattle.doors.specs.Door.{doorNumber}
+use Rattle.doors.proofs.count_number.Statement.{statement}
+use Rattle.doors.proofs.count_number.Tie as tie
+
+enum-known-answer : tie.Need-enum-known-answer
+enum-known-answer c = search needs
+
+enum-known-answer-2 : tie.Need-enum-known-answer-2
+enum-known-answer-2 c = search needs
+
+cast-result : tie.Need-cast-result
+cast-result c = search needs
+
+mul-result : tie.Need-mul-result
+mul-result c = search needs
+
+cast-result-2 : tie.Need-cast-result-2
+cast-result-2 c = search needs
+
+add-result : tie.Need-add-result
+add-result c = search needs
+
+returns : tie.Need-returns
+unfolding doorNumber
+returns c = sym (ap (λ (a : Counted). doorNumber (countSaid a)) (c .before .answer .given .1))
+
+returns-2 : tie.Need-returns-2
+unfolding doorNumber
+returns-2 c = sym (ap (λ (a : Counted). doorNumber (countSaid a)) (c .before .before .before .answer2 .given .1))
+
+pub count-number-spec : {M : Type 1} → statement M
+count-number-spec =
+    tie.close
+    (tie.spec
+    enum-known-answer
+    enum-known-answer-2
+    cast-result
+    mul-result
+    cast-result-2
+    add-result
+    returns
+    returns-2)

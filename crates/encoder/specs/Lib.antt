@@ -1,0 +1,2 @@
+-- Encode: what the encoders answer and write.
+pub mod Encode

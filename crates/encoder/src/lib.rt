@@ -1,0 +1,114 @@
+// The encoders and the coded length: K5 or K7, with a zero tail and punctured, and plain K5.
+ghost use mathlib.Core.List.{_++_};
+ghost use mathlib.Core.Path.{_≡_};
+ghost use Prim.Native.Nat.{_+_, _^_, _≤_, _<_};
+ghost use lib.Dec.{eqb};
+ghost use lib.ListN.{length, getD, take};
+ghost use Rattle.refusal.specs.Answer.{countSaid};
+ghost use Rattle.refusal.specs.Lent.{over, leaves};
+ghost use Rattle.trellis.specs.Choice.{keepOf};
+ghost use Rattle.trellis.specs.Codeword.{sentBy, lowestBits};
+ghost use Rattle.trellis.specs.Keep.{onlyIf, codedLength};
+ghost use Rattle.trellis.specs.Post.{Narrow, Rows};
+ghost use Rattle.encoder.specs.Encode.{lengthSaid, encodeSaid, encodeWord, plainSaid, plainWord};
+use refusal::Counted;
+use trellis::ConvCode;
+use trellis::KeepPattern;
+
+// The input of step t: the lowest bit of its byte, and 0 past the end, which is the zero tail.
+fn input_at(bits: &[u8], t: usize) -> u32
+    ensures { λ r. ⌜ r ≡ getD (lowestBits (now (bits .entry))) t 0 ⌝ }
+{
+    if t < bits.len() {
+        return (bits[t] % 2) as u32;
+    }
+    0
+}
+
+// Writes a coded bit at `at` if its column keeps it. Answers the place after it.
+fn put(column: u8, bit: u8, at: usize, out: &mut [u8]) -> usize
+    requires { ⌜ at + length (onlyIf (eqb column 1) bit) ≤ length (now out) ⌝ }
+    ensures place { λ r. ⌜ r ≡ at + length (onlyIf (eqb column 1) bit) ⌝ }
+    ensures output { λ r. ⌜ now (out .exit) ≡ over (take at (now (out .entry)) ++ onlyIf (eqb column 1) bit) (now (out .entry)) ⌝ }
+{
+    if column == 1 {
+        out[at] = bit;
+        return at + 1;
+    }
+    at
+}
+
+// The register from 0 on: writes what the steps send to the front of out.
+fn encode(code: ConvCode, keep: KeepPattern, bits: &[u8], steps: usize, out: &mut [u8])
+    requires { ⌜ Narrow code ⌝ }
+    requires { ⌜ Rows keep ⌝ }
+    requires { ⌜ codedLength (keepOf keep) steps ≤ length (now out) ⌝ }
+    ensures { λ _. ⌜ now (out .exit) ≡ over (sentBy code (keepOf keep) (lowestBits (now (bits .entry))) steps) (now (out .entry)) ⌝ }
+{
+    let period = keep.period;
+    let row0 = keep.row0;
+    let row1 = keep.row1;
+    let mut s = 0;
+    let mut at = 0;
+    for t in 0..steps {
+        let column = t % period;
+        let b = input_at(bits, t);
+        let pair = trellis::branch_bits(code, s, b);
+        at = put(row0[column], pair.c0, at, out);
+        at = put(row1[column], pair.c1, at, out);
+        s = trellis::next_state(code, s, b);
+    }
+}
+
+// How many coded bits an info count gives.
+pub fn punctured_coded_len_with(code: u8, info: usize, rate: u8) -> Counted
+    ensures { λ r. ⌜ countSaid r ≡ lengthSaid code rate info ⌝ }
+{
+    if trellis::CODES <= code {
+        return refusal::no_count(1);
+    }
+    if trellis::RATES <= rate {
+        return refusal::no_count(2);
+    }
+    if refusal::MOST < info {
+        return refusal::no_count(3);
+    }
+    let chosen = trellis::conv_code(code);
+    let keep = trellis::matrix(rate);
+    Counted::Count(trellis::coded_len(keep, info + chosen.width))
+}
+
+// The zero-tailed, punctured codeword of the info bits.
+pub fn conv_encode_punctured_with(code: u8, info: &[u8], rate: u8, out: &mut [u8]) -> Counted
+    ensures answer { λ r. ⌜ countSaid r ≡ encodeSaid code rate (length (now (info .entry))) (length (now (out .entry))) ⌝ }
+    ensures output { λ r. ⌜ now (out .exit) ≡ leaves (encodeSaid code rate (length (now (info .entry))) (length (now (out .entry)))) (encodeWord code rate (now (info .entry))) (now (out .entry)) ⌝ }
+{
+    let answer = punctured_coded_len_with(code, info.len(), rate);
+    let Counted::Count(need) = answer else {
+        return answer;
+    };
+    if out.len() < need {
+        return refusal::no_count(4);
+    }
+    let chosen = trellis::conv_code(code);
+    let keep = trellis::matrix(rate);
+    encode(chosen, keep, info, info.len() + chosen.width, out);
+    Counted::Count(need)
+}
+
+// The coded bits of K5 at rate 1/2 with no tail: two for each input.
+pub fn conv_encode(bits: &[u8], out: &mut [u8]) -> Counted
+    ensures answer { λ r. ⌜ countSaid r ≡ plainSaid (length (now (bits .entry))) (length (now (out .entry))) ⌝ }
+    ensures output { λ r. ⌜ now (out .exit) ≡ leaves (plainSaid (length (now (bits .entry))) (length (now (out .entry)))) (plainWord (now (bits .entry))) (now (out .entry)) ⌝ }
+{
+    let count = bits.len();
+    if refusal::MOST < count {
+        return refusal::no_count(3);
+    }
+    let need = 2 * count;
+    if out.len() < need {
+        return refusal::no_count(4);
+    }
+    encode(trellis::conv_code(0), trellis::matrix(0), bits, count, out);
+    Counted::Count(need)
+}

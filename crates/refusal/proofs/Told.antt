@@ -1,0 +1,27 @@
+-- An answer is fixed by what document 01 says of it: two answers of which it says the same are equal. Assumes nothing.
+use mathlib.Core.Path.{_≡_, ap, ap₂}
+use Prim.Native.Nat.{ℕ}
+use Rattle.refusal.specs.Answer.{countSaid, wordSaid}
+use Rattle.refusal.specs.declared.Refusal.{Refusal}
+use Rattle.refusal.specs.declared.Counted.{Counted}
+use Rattle.refusal.specs.declared.Counted.the-variants as counted
+use Rattle.refusal.specs.declared.Decoded.{Decoded}
+use Rattle.refusal.specs.declared.Decoded.the-variants as decoded
+
+abbrev made : ℕ → ℕ → Refusal
+made n p = record { number = n; place = p }
+
+same-refusal : (q r : Refusal) → q .number ≡ r .number → q .place ≡ r .place → q ≡ r
+same-refusal q r e f = ap₂ made e f
+
+pub count-told : (a b : Counted) → countSaid a ≡ countSaid b → a ≡ b
+count-told (counted.Count m) (counted.Count n) e = cc
+count-told (counted.Count m) (counted.Refused r) e = cc
+count-told (counted.Refused q) (counted.Count n) e = cc
+count-told (counted.Refused q) (counted.Refused r) e = ap counted.Refused (same-refusal q r (cc) (cc))
+
+pub word-told : (a b : Decoded) → wordSaid a ≡ wordSaid b → a ≡ b
+word-told (decoded.Word m) (decoded.Word n) e = cc
+word-told (decoded.Word m) (decoded.Refused r) e = cc
+word-told (decoded.Refused q) (decoded.Word n) e = cc
+word-told (decoded.Refused q) (decoded.Refused r) e = ap decoded.Refused (same-refusal q r (cc) (cc))

@@ -1,0 +1,27 @@
+-- What document 01 says of an answer: the value of an accepted call, or the number and the place of a refusal. Definitions only.
+use mathlib.Core.Bool.{Bool, true, false}
+use Prim.Native.Nat.{ℕ}
+use lib.Ieee.{Float}
+use Rattle.refusal.specs.declared.Counted.{Counted}
+use Rattle.refusal.specs.declared.Counted.the-variants as counted
+use Rattle.refusal.specs.declared.Decoded.{Decoded}
+use Rattle.refusal.specs.declared.Decoded.the-variants as decoded
+
+pub data Said (A : Type 0) : Type 0 where
+  accepted : A → Said A
+  refused : (number place : ℕ) → Said A
+
+-- a count, or the refusal's number and place
+abbrev pub countSaid : Counted → Said ℕ
+countSaid (counted.Count n) = accepted n
+countSaid (counted.Refused r) = refused (r .number) (r .place)
+
+-- the winning score, or the refusal's number and place
+abbrev pub wordSaid : Decoded → Said Float
+wordSaid (decoded.Word score) = accepted score
+wordSaid (decoded.Refused r) = refused (r .number) (r .place)
+
+-- Refusal `number` at place 0 exactly when the test holds. Tests stand in 01's order, lowest number first, one within the other.
+abbrev pub refuseWhen : {A : Type 0} → Bool → ℕ → Said A → Said A
+refuseWhen true number rest = refused number 0
+refuseWhen false number rest = rest

@@ -1,0 +1,4 @@
+-- Answer: what document 01 says of an answer. Lent: what a call leaves in a lent buffer. Limits: how much one call may bring.
+pub mod Answer
+pub mod Lent
+pub mod Limits

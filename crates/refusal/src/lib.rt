@@ -1,0 +1,33 @@
+// What an entry answers: its value, or a refusal with document 01's number and a place.
+ghost use mathlib.Core.Path.{_≡_};
+ghost use Rattle.refusal.specs.Answer.{countSaid, refused};
+
+// The most info bits or symbols that one call may bring.
+pub const MOST: usize = 4096;
+
+// A refusal: document 01's number, and the index of the first bad value where the number is 6 or 7,
+// else 0.
+pub struct Refusal {
+    pub number: u8,
+    pub place: u32,
+}
+
+// The answer of an entry that writes a list or measures one: how many elements, or a refusal.
+pub enum Counted {
+    Count(usize),
+    Refused(Refusal),
+}
+
+// The answer of the block decoder of readings: the word stands in the lent output, and its score is
+// carried here; or a refusal.
+pub enum Decoded {
+    Word(f32),
+    Refused(Refusal),
+}
+
+// The refusal of a call whose answer is a count, at place 0.
+pub fn no_count(number: u8) -> Counted
+    ensures { λ r. ⌜ countSaid r ≡ refused number 0 ⌝ }
+{
+    Counted::Refused(Refusal { number, place: 0 })
+}

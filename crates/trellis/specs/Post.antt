@@ -1,0 +1,30 @@
+-- What the functions on one step ask and ensure, part by part. Definitions only.
+use mathlib.Core.Path.{_≡_}
+use Prim.Native.Nat.{ℕ, _^_, _≤_, _<_}
+use lib.ListN.{length}
+use Rattle.trellis.specs.declared.ConvCode.{ConvCode}
+use Rattle.trellis.specs.declared.KeepPattern.{KeepPattern}
+use Rattle.trellis.specs.declared.Pair.{Pair}
+use Rattle.trellis.specs.State.{window, parityOf}
+
+-- a register of at least one cell, whose window fits a u32 with room to spare
+pub record Narrow (code : ConvCode) : Type 0 where
+  pub some : 0 < code .width
+  pub narrow : code .width ≤ 16
+
+-- such a code, a state of it and an input bit
+pub record Taken (code : ConvCode) (s b : ℕ) : Type 0 where
+  pub held : Narrow code
+  pub state : s < 2 ^ code .width
+  pub bit : b < 2
+
+pub record Branched (code : ConvCode) (s b : ℕ) (r : Pair) : Type 0 where
+  pub first : r .c0 ≡ parityOf (code .g0) (window code s b)
+  pub second : r .c1 ≡ parityOf (code .g1) (window code s b)
+
+-- a keep pattern as the code holds it: at least one column counts, and each row has those that count
+pub record Rows (m : KeepPattern) : Type 0 where
+  pub some : 0 < m .period
+  pub seven : m .period ≤ 7
+  pub room0 : m .period ≤ length (m .row0)
+  pub room1 : m .period ≤ length (m .row1)

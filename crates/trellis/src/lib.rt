@@ -1,0 +1,163 @@
+// One step of the shift register for any code, which coded bits a keep pattern keeps, and the coded length.
+ghost use mathlib.Core.Path.{_≡_};
+ghost use Prim.Native.Nat.{_<_, _≤_, _^_};
+ghost use lib.ListN.{take};
+ghost use Rattle.trellis.specs.Choice.{codeOf, patternOf, heldOf, keepOf};
+ghost use Rattle.trellis.specs.Keep.{onesOf, codedLength};
+ghost use Rattle.trellis.specs.State.{window, parityOf, nextState};
+ghost use Rattle.trellis.specs.Post.{Taken, Branched, Rows};
+
+// A code: the register's width K - 1, and the tap words over the window of K bits, whose top bit
+// is the input.
+pub struct ConvCode {
+    pub width: usize,
+    pub g0: u32,
+    pub g1: u32,
+}
+
+// How many codes and rates there are. Their numbers count from 0.
+pub const CODES: u8 = 2;
+
+pub const RATES: u8 = 5;
+
+// The code of QPSK31.
+const K5: ConvCode = ConvCode {
+    width: 4,
+    g0: 0b10101,
+    g1: 0b10011,
+};
+
+// The inner code of DVB-T: octal 171 and 133.
+const K7: ConvCode = ConvCode {
+    width: 6,
+    g0: 0b1111001,
+    g1: 0b1011011,
+};
+
+// A keep pattern: G0's row and G1's, of which the first `period` columns count.
+pub struct KeepPattern {
+    pub period: usize,
+    pub row0: [u8; 7],
+    pub row1: [u8; 7],
+}
+
+const KEEP_1_2: KeepPattern = KeepPattern {
+    period: 1,
+    row0: [1, 0, 0, 0, 0, 0, 0],
+    row1: [1, 0, 0, 0, 0, 0, 0],
+};
+
+const KEEP_2_3: KeepPattern = KeepPattern {
+    period: 2,
+    row0: [1, 1, 0, 0, 0, 0, 0],
+    row1: [1, 0, 0, 0, 0, 0, 0],
+};
+
+const KEEP_3_4: KeepPattern = KeepPattern {
+    period: 3,
+    row0: [1, 1, 0, 0, 0, 0, 0],
+    row1: [1, 0, 1, 0, 0, 0, 0],
+};
+
+const KEEP_5_6: KeepPattern = KeepPattern {
+    period: 5,
+    row0: [1, 1, 0, 1, 0, 0, 0],
+    row1: [1, 0, 1, 0, 1, 0, 0],
+};
+
+const KEEP_7_8: KeepPattern = KeepPattern {
+    period: 7,
+    row0: [1, 1, 1, 1, 0, 1, 0],
+    row1: [1, 0, 0, 0, 1, 0, 1],
+};
+
+// The code of a number, K5 where the number is no code's.
+pub fn conv_code(code: u8) -> ConvCode
+    ensures { λ r. ⌜ r ≡ codeOf code ⌝ }
+{
+    match code {
+        1 => K7,
+        _ => K5,
+    }
+}
+
+// The keep pattern of a rate's number, that of 1/2 where the number is no rate's.
+pub fn matrix(rate: u8) -> KeepPattern
+    ensures { λ r. ⌜ r ≡ heldOf (patternOf rate) ⌝ }
+{
+    match rate {
+        1 => KEEP_2_3,
+        2 => KEEP_3_4,
+        3 => KEEP_5_6,
+        4 => KEEP_7_8,
+        _ => KEEP_1_2,
+    }
+}
+
+fn parity(w: u32, taps: u32) -> u8
+    ensures { λ r. ⌜ r ≡ parityOf taps w ⌝ }
+{
+    (u32::count_ones(w & taps) % 2) as u8
+}
+
+// The input bit above the register.
+fn window_of(code: ConvCode, s: u32, b: u32) -> u32
+    requires { ⌜ Taken code s b ⌝ }
+    ensures { λ r. ⌜ r ≡ window code s b ⌝ }
+{
+    (b << code.width) | s
+}
+
+// A coded pair, G0's bit first.
+pub struct Pair {
+    pub c0: u8,
+    pub c1: u8,
+}
+
+// The coded bits of the state s on the input b.
+pub fn branch_bits(code: ConvCode, s: u32, b: u32) -> Pair
+    requires { ⌜ Taken code s b ⌝ }
+    ensures { λ r. ⌜ Branched code s b r ⌝ }
+{
+    let w = window_of(code, s, b);
+    Pair {
+        c0: parity(w, code.g0),
+        c1: parity(w, code.g1),
+    }
+}
+
+// The state after s on the input b: the window without its lowest bit.
+pub fn next_state(code: ConvCode, s: u32, b: u32) -> u32
+    requires { ⌜ Taken code s b ⌝ }
+    ensures { λ r. ⌜ r ≡ nextState code s b ⌝ }
+{
+    window_of(code, s, b) / 2
+}
+
+// The ones in the first n columns of a row.
+fn ones_in(row: &[u8; 7], n: usize) -> usize
+    requires { ⌜ n ≤ 7 ⌝ }
+    ensures { λ r. ⌜ (r ≡ onesOf (take n (now (row .entry)))) × (r ≤ n) ⌝ }
+{
+    let mut count = 0;
+    for i in 0..n {
+        if row[i] == 1 {
+            count += 1;
+        }
+    }
+    count
+}
+
+// Whole periods times the ones in both rows, plus the ones in the columns begun.
+pub fn coded_len(keep: KeepPattern, steps: usize) -> usize
+    requires { ⌜ Rows keep ⌝ }
+    requires { ⌜ steps < 2 ^ 32 ⌝ }
+    ensures { λ r. ⌜ r ≡ codedLength (keepOf keep) steps ⌝ }
+{
+    let period = keep.period;
+    let row0 = keep.row0;
+    let row1 = keep.row1;
+    let begun = steps % period;
+    let all = ones_in(&row0, period) + ones_in(&row1, period);
+    steps / period * all + (ones_in(&row0, begun) + ones_in(&row1, begun))
+}

@@ -1,0 +1,42 @@
+//! Times two ways to do one thing, turn by turn, so that what else the machine does falls on both.
+
+use std::time::Instant;
+
+pub const ROUNDS: usize = 31;
+
+/// The least time of one turn, well above what the clock can tell.
+const TURN_NS: f64 = 2_000_000.0;
+
+/// The median time of one call of each, in ns.
+pub fn medians(mut first: impl FnMut(), mut second: impl FnMut()) -> (f64, f64) {
+    let (first_calls, second_calls) = (calls_per_turn(&mut first), calls_per_turn(&mut second));
+    let (mut first_times, mut second_times) = (Vec::new(), Vec::new());
+    for _ in 0..ROUNDS {
+        first_times.push(time(&mut first, first_calls));
+        second_times.push(time(&mut second, second_calls));
+    }
+    (median(first_times), median(second_times))
+}
+
+/// Doubles the calls until a turn is long enough; that also warms the caches.
+fn calls_per_turn(work: &mut impl FnMut()) -> u32 {
+    let mut calls = 1;
+    while time(work, calls) * f64::from(calls) < TURN_NS {
+        calls *= 2;
+    }
+    calls
+}
+
+/// The time of one call, over so many.
+fn time(work: &mut impl FnMut(), calls: u32) -> f64 {
+    let began = Instant::now();
+    for _ in 0..calls {
+        work();
+    }
+    began.elapsed().as_nanos() as f64 / f64::from(calls)
+}
+
+fn median(mut times: Vec<f64>) -> f64 {
+    times.sort_by(f64::total_cmp);
+    times[times.len() / 2]
+}

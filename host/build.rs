@@ -1,0 +1,19 @@
+//! Links the proved doors: libdoors.a of RELAY_DOORS_DIR, else of the repository's target/native.
+
+use std::env;
+use std::path::PathBuf;
+
+fn main() {
+    println!("cargo::rerun-if-env-changed=RELAY_DOORS_DIR");
+    let here = PathBuf::from(env::var_os("CARGO_MANIFEST_DIR").expect("cargo names the package's folder"));
+    let folder = env::var_os("RELAY_DOORS_DIR").map_or(here.join("../target/native"), PathBuf::from);
+    let archive = folder.join("libdoors.a");
+    println!("cargo::rerun-if-changed={}", archive.display());
+    if !archive.is_file() {
+        println!("cargo::error=there is no {}", archive.display());
+        println!("cargo::error=run `tools/native staticlib doors` at the top of the repository first");
+        return;
+    }
+    println!("cargo::rustc-link-search=native={}", folder.display());
+    println!("cargo::rustc-link-lib=static=doors");
+}

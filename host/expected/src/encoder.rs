@@ -1,0 +1,56 @@
+//! The encoders and the coded length.
+
+use crate::{After, INFO_LIMIT, refused};
+use oracle::fec::conv::{ConvCode, PunctureRate, conv_encode_punctured_with, punctured_coded_len_with};
+
+/// `relay_encode`, for an `out` as it is before the call.
+pub fn encode(code: u8, rate: u8, info: &[u8], out: &[u8]) -> After {
+    let (code, rate) = match selected(code, rate, info.len()) {
+        Ok(selection) => selection,
+        Err(number) => return After::refusal(number, out),
+    };
+    fit(&conv_encode_punctured_with(code, info, rate), out)
+}
+
+/// `relay_conv_encode`, for an `out` as it is before the call.
+pub fn conv_encode(bits: &[u8], out: &[u8]) -> After {
+    if bits.len() > INFO_LIMIT {
+        return After::refusal(3, out);
+    }
+    fit(&oracle::codec::conv_encode(bits), out)
+}
+
+/// `relay_coded_len`.
+pub fn coded_len(code: u8, rate: u8, info: usize) -> u64 {
+    match selected(code, rate, info) {
+        Ok((code, rate)) => punctured_coded_len_with(code, info, rate) as u64,
+        Err(number) => refused(number),
+    }
+}
+
+/// The oracle's code and rate, or the first of the refusals 1, 2 and 3 that is due.
+fn selected(code: u8, rate: u8, info: usize) -> Result<(ConvCode, PunctureRate), u64> {
+    let code = match code {
+        0 => ConvCode::K5,
+        1 => ConvCode::DvbK7,
+        _ => return Err(1),
+    };
+    let rate = match rate {
+        0 => PunctureRate::R1_2,
+        1 => PunctureRate::R2_3,
+        2 => PunctureRate::R3_4,
+        3 => PunctureRate::R5_6,
+        4 => PunctureRate::R7_8,
+        _ => return Err(2),
+    };
+    if info > INFO_LIMIT { Err(3) } else { Ok((code, rate)) }
+}
+
+/// The coded bits in `out`, or refusal 4 where it is too short.
+fn fit(coded: &[u8], out: &[u8]) -> After {
+    if out.len() < coded.len() {
+        After::refusal(4, out)
+    } else {
+        After::written(coded, out)
+    }
+}

@@ -1,0 +1,30 @@
+//! The doors themselves, with 01's numbers for code and rate, safe to call with any.
+//!
+//! Each returns the count, or on a refusal its number times 2^32 plus the place. An accepted call writes the
+//! first count bytes of `out` and no other; a refused one writes none.
+
+mod foreign {
+    // A slice crosses as a pointer and then a length.
+    unsafe extern "C" {
+        pub fn relay_conv_encode(bits: *const u8, bits_len: usize, out: *mut u8, out_len: usize) -> u64;
+        pub fn relay_encode(code: u8, rate: u8, info: *const u8, info_len: usize, out: *mut u8, out_len: usize) -> u64;
+        pub safe fn relay_coded_len(code: u8, rate: u8, info: usize) -> u64;
+    }
+}
+
+/// The plain K5 encoder at rate 1/2, with no zeros after the bits. Refusals 3 and 4.
+pub fn conv_encode(bits: &[u8], out: &mut [u8]) -> u64 {
+    // SAFETY: both slices are live and do not overlap, and the proved code stays within their lengths.
+    unsafe { foreign::relay_conv_encode(bits.as_ptr(), bits.len(), out.as_mut_ptr(), out.len()) }
+}
+
+/// The encoder with zero tail and keep pattern. Refusals 1 to 4.
+pub fn encode(code: u8, rate: u8, info: &[u8], out: &mut [u8]) -> u64 {
+    // SAFETY: as in `conv_encode`.
+    unsafe { foreign::relay_encode(code, rate, info.as_ptr(), info.len(), out.as_mut_ptr(), out.len()) }
+}
+
+/// How many coded bits `encode` gives for so many info bits. Refusals 1 to 3.
+pub fn coded_len(code: u8, rate: u8, info: usize) -> u64 {
+    foreign::relay_coded_len(code, rate, info)
+}

@@ -1,0 +1,49 @@
+//! A door's answer taken apart: a count, or a refusal's number and place.
+
+use std::error::Error;
+use std::fmt;
+
+/// Why a call was refused, by document 01's table. A refused call changed no byte that was lent to it.
+#[derive(Debug, Clone, Copy, PartialEq, Eq)]
+pub struct Refusal {
+    /// 01's refusal number.
+    pub number: u32,
+    /// The index of the first bad value where the number is about values, else 0.
+    pub place: u32,
+}
+
+impl fmt::Display for Refusal {
+    fn fmt(&self, f: &mut fmt::Formatter<'_>) -> fmt::Result {
+        write!(f, "refused {} at {}", self.number, self.place)
+    }
+}
+
+impl Error for Refusal {}
+
+/// Reads the answer of a door that counts: a refusal's number stands above the lowest 32 bits.
+pub(crate) fn count(answer: u64) -> Result<usize, Refusal> {
+    let (number, low) = ((answer >> 32) as u32, answer as u32);
+    if number == 0 {
+        Ok(low as usize)
+    } else {
+        Err(Refusal { number, place: low })
+    }
+}
+
+#[cfg(test)]
+mod tests {
+    use super::*;
+
+    #[test]
+    fn an_answer_below_two_to_the_32_is_a_count() {
+        assert_eq!(count(0), Ok(0));
+        assert_eq!(count(0xFFFF_FFFF), Ok(0xFFFF_FFFF));
+    }
+
+    #[test]
+    fn an_answer_above_is_a_number_and_a_place() {
+        let refusal = Refusal { number: 6, place: 9 };
+        assert_eq!(count(6 << 32 | 9), Err(refusal));
+        assert_eq!(refusal.to_string(), "refused 6 at 9");
+    }
+}
