@@ -15,7 +15,7 @@ use Rattle.trellis.specs.declared.KeepPattern.{KeepPattern}
 use Rattle.trellis.specs.declared.Pair.{Pair}
 use Rattle.trellis.specs.Choice.{keepOf}
 use Rattle.trellis.specs.Codeword.{coded0, coded1, sentBy, lowestBits}
-use Rattle.trellis.specs.Keep.{Keep, onlyIf, keptOf, keptThrough, codedLength}
+use Rattle.trellis.specs.Keep.{Keep, keeps0, keeps1, onlyIf, keptOf, keptThrough, codedLength}
 use Rattle.trellis.specs.Post.{Narrow, Taken, Branched, Rows}
 use Rattle.trellis.specs.State.{nextState, stateAfter}
 use Rattle.trellis.proofs.Columns.{rows-pattern, keeps0-column, keeps1-column}
@@ -47,19 +47,30 @@ put-adds front old out new at next kept v w f e g h z =
       size = z ∙ f .size;
     }
 
-module _ (code : ConvCode) (m : KeepPattern) (rows : Rows m) (inputs : List ℕ) (t : ℕ) where
+-- step t, whose column is counted
+module _
+    (code : ConvCode) (m : KeepPattern) (rows : Rows m) (inputs : List ℕ) (t column : ℕ) (counted : column ≡ t % m .period) where
   abbrev p : Keep
   p = keepOf m
 
   abbrev keeps : List ℕ → Bool
-  keeps row = eqb (getD row (t % m .period) 0) 1
+  keeps row = eqb (getD row column 0) 1
+
+  keeps-first : keeps0 p t ≡ keeps (m .row0)
+  keeps-first = keeps0-column m rows t ∙ ap (λ (k : ℕ). eqb (getD (m .row0) k 0) 1) (sym counted)
+
+  keeps-second : keeps1 p t ≡ keeps (m .row1)
+  keeps-second = keeps1-column m rows t ∙ ap (λ (k : ℕ). eqb (getD (m .row1) k 0) 1) (sym counted)
+
+  pub column-below : column < m .period
+  column-below = rw counted (mod-lt t (rows .some))
 
   pub sent-suc :
       (sentBy code p inputs t ++ onlyIf (keeps (m .row0)) (coded0 code inputs t)) ++ onlyIf (keeps (m .row1)) (coded1 code inputs t)
       ≡ sentBy code p inputs (t + 1)
   unfolding sentBy keptThrough keptOf
   sent-suc =
-      rw (add-one t, keeps0-column m rows t, keeps1-column m rows t)
+      rw (add-one t, keeps-first, keeps-second)
       (append-assoc (sentBy code p inputs t) (onlyIf (keeps (m .row0)) (coded0 code inputs t)) (onlyIf (keeps (m .row1)) (coded1 code inputs t)))
 
   -- the step's bits fit where those of all steps do
@@ -68,7 +79,7 @@ module _ (code : ConvCode) (m : KeepPattern) (rows : Rows m) (inputs : List ℕ)
     both-fit =
         let good = rows-pattern m rows in
         let next : codedLength p (suc t) ≡ codedLength p t + (one (keeps (m .row0)) + one (keeps (m .row1))) =
-        coded-suc p good t ∙ rw (keeps0-column m rows t, keeps1-column m rows t) in
+            coded-suc p good t ∙ rw (keeps-first, keeps-second) in
         omega (arith, next, coded-mono p good (suc t) steps h)
 
     pub first-fits : (at v : ℕ) → at ≡ length (sentBy code p inputs t) → at + length (onlyIf (keeps (m .row0)) v) ≤ room
@@ -85,9 +96,6 @@ module _ (code : ConvCode) (m : KeepPattern) (rows : Rows m) (inputs : List ℕ)
           length-sent code p (rows-pattern m rows) inputs t,
           length-append (sentBy code p inputs t) (onlyIf (keeps (m .row0)) u),
         )
-
-  pub column-below : t % m .period < 7
-  column-below = omega (arith, mod-lt t (rows .some), rows .seven)
 
 -- the state s and the input b of step t, for inputs that are the lowest bits of bytes
 module _

@@ -49,14 +49,15 @@ fn encode(code: ConvCode, keep: KeepPattern, bits: &[u8], steps: usize, out: &mu
     let row0 = keep.row0;
     let row1 = keep.row1;
     let mut s = 0;
+    let mut column = 0;
     let mut at = 0;
     for t in 0..steps {
-        let column = t % period;
         let b = input_at(bits, t);
         let pair = trellis::branch_bits(code, s, b);
         at = put(row0[column], pair.c0, at, out);
         at = put(row1[column], pair.c1, at, out);
         s = trellis::next_state(code, s, b);
+        column = trellis::next_column(column, period);
     }
 }
 

@@ -2,7 +2,7 @@
 use mathlib.Core.List.{List}
 use mathlib.Core.Path.{_≡_, refl, sym, ap, ap₂, _∙_}
 use Prim.Native.Nat.{ℕ, _+_, _*_, _/_, _%_, _≤_, _<_}
-use native.Mathlib.Nat.{mod-lt}
+use native.Mathlib.Nat.{mod-lt, mod-add-mod}
 use native.Mathlib.Omega.{arith}
 use lib.Dec.{eqb}
 use lib.ListN.{length, getD, take}
@@ -43,3 +43,7 @@ module _ (m : KeepPattern) (rows : Rows m) where
   coded-columns t =
       let begun : t % n ≤ n = omega (arith, mod-lt t (rows .some)) in
       rw (length-take-le n (m .row0) (rows .room0), take-take (t % n) n (m .row0) begun, take-take (t % n) n (m .row1) begun)
+
+-- a counter of columns that goes round is the step mod the period
+pub column-next : (n t column next : ℕ) → column ≡ t % n → next ≡ (column + 1) % n → next ≡ (t + 1) % n
+column-next n t column next e f = f ∙ ap (λ (k : ℕ). (k + 1) % n) e ∙ mod-add-mod t n 1

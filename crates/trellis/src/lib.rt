@@ -1,6 +1,6 @@
 // One step of the shift register for any code, which coded bits a keep pattern keeps, and the coded length.
 ghost use mathlib.Core.Path.{_≡_};
-ghost use Prim.Native.Nat.{_<_, _≤_, _^_};
+ghost use Prim.Native.Nat.{_+_, _%_, _<_, _≤_, _^_};
 ghost use lib.ListN.{take};
 ghost use Rattle.trellis.specs.Choice.{codeOf, patternOf, heldOf, keepOf};
 ghost use Rattle.trellis.specs.Keep.{onesOf, codedLength};
@@ -132,6 +132,16 @@ pub fn next_state(code: ConvCode, s: u32, b: u32) -> u32
     ensures { λ r. ⌜ r ≡ nextState code s b ⌝ }
 {
     window_of(code, s, b) / 2
+}
+
+// The column of the step after one that uses this column: a counter, where t mod period would divide
+// at each step.
+pub fn next_column(column: usize, period: usize) -> usize
+    requires { ⌜ column < period ⌝ }
+    ensures { λ r. ⌜ r ≡ (column + 1) % period ⌝ }
+{
+    let next = column + 1;
+    if next == period { 0 } else { next }
 }
 
 // The ones in the first n columns of a row.
