@@ -1,6 +1,6 @@
 -- What the code and rate numbers select, as the code holds it: the laws of the definitions at it. Assumes nothing.
 use mathlib.Core.List.{List}
-use mathlib.Core.Path.{_≡_, sym}
+use mathlib.Core.Path.{_≡_, refl, sym, ap, _∙_}
 use Prim.Native.Nat.{ℕ, _+_, _*_}
 use lib.ListN.{length}
 use Rattle.trellis.specs.declared.ConvCode.{ConvCode}
@@ -19,20 +19,25 @@ chosen-narrow chosen code e = rw e (code-narrow code)
 pub chosen-rows : (keep : KeepPattern) (rate : ℕ) → keep ≡ heldOf (patternOf rate) → Rows keep
 chosen-rows keep rate e = rw e (rate-held rate .rows)
 
-module _ (code rate : ℕ) (chosen : ConvCode) (keep : KeepPattern) (e : chosen ≡ codeOf code) (f : keep ≡ heldOf (patternOf rate)) where
-  pub length-chosen : (count : ℕ) → codedLength (keepOf keep) (count + chosen .width) ≡ lengthOf code rate count
-  length-chosen count = rw (e, f, rate-held rate .back)
+pub keep-chosen : (keep : KeepPattern) (rate : ℕ) → keep ≡ heldOf (patternOf rate) → keepOf keep ≡ patternOf rate
+keep-chosen keep rate e = ap keepOf e ∙ rate-held rate .back
 
-  pub word-chosen : (info : List ℕ) → sentBy chosen (keepOf keep) (lowestBits info) (length info + chosen .width) ≡ encodeWord code rate info
-  word-chosen info = rw (e, f, rate-held rate .back) (sym (codeword-sent (codeOf code) (patternOf rate) info))
+pub length-held : (keep : KeepPattern) (rate : ℕ) → keep ≡ heldOf (patternOf rate) → (steps : ℕ) → codedLength (keepOf keep) steps ≡ codedLength (patternOf rate) steps
+length-held keep rate e steps = rw (keep-chosen keep rate e)
+
+pub length-chosen : (code rate : ℕ) (chosen : ConvCode) → chosen ≡ codeOf code → (count : ℕ) → codedLength (patternOf rate) (count + chosen .width) ≡ lengthOf code rate count
+length-chosen code rate chosen e count = rw e
+
+pub word-chosen :
+    (code rate : ℕ) (chosen : ConvCode) → chosen ≡ codeOf code → (info : List ℕ) →
+    sentBy (codeOf code) (patternOf rate) (lowestBits info) (length info + chosen .width) ≡ encodeWord code rate info
+word-chosen code rate chosen e info = rw e (sym (codeword-sent (codeOf code) (patternOf rate) info))
 
 -- the numbers 0 and 0 select what the plain encoder uses
-pub length-plain : (keep : KeepPattern) → keep ≡ heldOf (patternOf 0) → (count : ℕ) → codedLength (keepOf keep) count ≡ 2 * count
+pub length-plain : (count : ℕ) → codedLength (patternOf 0) count ≡ 2 * count
 unfolding patternOf
-length-plain keep f count = rw (f, rate-held 0 .back) (half-length count)
+length-plain count = half-length count
 
-pub word-plain :
-    (chosen : ConvCode) (keep : KeepPattern) → chosen ≡ codeOf 0 → keep ≡ heldOf (patternOf 0) → (bits : List ℕ) →
-    sentBy chosen (keepOf keep) (lowestBits bits) (length bits) ≡ plainWord bits
+pub word-plain : (bits : List ℕ) → sentBy (codeOf 0) (patternOf 0) (lowestBits bits) (length bits) ≡ plainWord bits
 unfolding plainWord codeOf patternOf
-word-plain chosen keep e f bits = rw (e, f, rate-held 0 .back)
+word-plain bits = refl

@@ -79,7 +79,7 @@ module _
     both-fit =
         let good = rows-pattern m rows in
         let next : codedLength p (suc t) ≡ codedLength p t + (one (keeps (m .row0)) + one (keeps (m .row1))) =
-            coded-suc p good t ∙ rw (keeps-first, keeps-second) in
+        coded-suc p good t ∙ rw (keeps-first, keeps-second) in
         omega (arith, next, coded-mono p good (suc t) steps h)
 
     pub first-fits : (at v : ℕ) → at ≡ length (sentBy code p inputs t) → at + length (onlyIf (keeps (m .row0)) v) ≤ room

@@ -6,7 +6,7 @@ ghost use lib.Dec.{eqb};
 ghost use lib.ListN.{length, getD, take};
 ghost use Rattle.refusal.specs.Answer.{countSaid};
 ghost use Rattle.refusal.specs.Lent.{over, leaves};
-ghost use Rattle.trellis.specs.Choice.{keepOf};
+ghost use Rattle.trellis.specs.Choice.{codeOf, patternOf, keepOf};
 ghost use Rattle.trellis.specs.Codeword.{sentBy, lowestBits};
 ghost use Rattle.trellis.specs.Keep.{onlyIf, codedLength};
 ghost use Rattle.trellis.specs.Post.{Narrow, Rows};
@@ -61,6 +61,36 @@ fn encode(code: ConvCode, keep: KeepPattern, bits: &[u8], steps: usize, out: &mu
     }
 }
 
+// The same for the code and the keep pattern of their numbers. Where these are constants, the compiler
+// leaves the columns and the tap words out of the loop: the Rust too has ways of its own for rate 1/2
+// and for K5.
+fn encode_at(code: u8, rate: u8, bits: &[u8], steps: usize, out: &mut [u8])
+    requires { ⌜ codedLength (patternOf rate) steps ≤ length (now out) ⌝ }
+    ensures { λ _. ⌜ now (out .exit) ≡ over (sentBy (codeOf code) (patternOf rate) (lowestBits (now (bits .entry))) steps) (now (out .entry)) ⌝ }
+{
+    if rate == 0 {
+        if code == 0 {
+            encode(trellis::conv_code(0), trellis::matrix(0), bits, steps, out);
+            return;
+        }
+        encode(
+            trellis::conv_code(code),
+            trellis::matrix(0),
+            bits,
+            steps,
+            out,
+        );
+        return;
+    }
+    encode(
+        trellis::conv_code(code),
+        trellis::matrix(rate),
+        bits,
+        steps,
+        out,
+    );
+}
+
 // How many coded bits an info count gives.
 pub fn punctured_coded_len_with(code: u8, info: usize, rate: u8) -> Counted
     ensures { λ r. ⌜ countSaid r ≡ lengthSaid code rate info ⌝ }
@@ -92,8 +122,7 @@ pub fn conv_encode_punctured_with(code: u8, info: &[u8], rate: u8, out: &mut [u8
         return refusal::no_count(4);
     }
     let chosen = trellis::conv_code(code);
-    let keep = trellis::matrix(rate);
-    encode(chosen, keep, info, info.len() + chosen.width, out);
+    encode_at(code, rate, info, info.len() + chosen.width, out);
     Counted::Count(need)
 }
 
@@ -110,6 +139,6 @@ pub fn conv_encode(bits: &[u8], out: &mut [u8]) -> Counted
     if out.len() < need {
         return refusal::no_count(4);
     }
-    encode(trellis::conv_code(0), trellis::matrix(0), bits, count, out);
+    encode_at(0, 0, bits, count, out);
     Counted::Count(need)
 }

@@ -5,7 +5,7 @@ use borrow.Author.Needs.{needs}
 use borrow.Author.Tests.{lt-ltb, le-ltb}
 use lib.ListN.{length}
 use Rattle.encoder.specs.Encode.{plainSaid}
-use Rattle.encoder.proofs.Selected.{chosen-narrow, chosen-rows, length-plain, word-plain}
+use Rattle.encoder.proofs.Selected.{length-plain, word-plain}
 use Rattle.encoder.proofs.conv_encode.Statement.{statement}
 use Rattle.encoder.proofs.conv_encode.Tie as tie
 
@@ -29,17 +29,8 @@ returns-2 c =
     let short = lt-ltb _ _ (c .before .if2 .taken) in
     (c .no-count2 .ensures ∙ rw (few, short), rw (few, short))
 
-conv-code-requires : tie.Need-conv-code-requires
-conv-code-requires c κs = search needs
-
-matrix-requires : tie.Need-matrix-requires
-matrix-requires c κs = search needs
-
-encode-requires : tie.Need-encode-requires
-encode-requires c κs =
-    let code = c .before .before .conv-code .ensures in
-    let keep = c .before .matrix .ensures in
-    (chosen-narrow _ 0 code, (chosen-rows _ 0 keep, omega (arith, length-plain _ keep (length (c .before .before .before .before .before .before .before .args .bits .now)), c .before .before .before .if2 .left)))
+encode-at-requires : tie.Need-encode-at-requires
+encode-at-requires c κs = omega (arith, length-plain (length (c .before .before .before .before .before .args .bits .now)), c .before .if2 .left)
 
 same-length : tie.Need-same-length
 same-length c = search needs
@@ -47,9 +38,9 @@ same-length c = search needs
 returns-3 : tie.Need-returns-3
 unfolding plainSaid
 returns-3 c =
-    let few = le-ltb _ _ (c .before .before .before .before .before .before .before .if1 .left) in
-    let room = le-ltb _ _ (c .before .before .before .before .before .before .if2 .left) in
-    (rw (few, room), c .before .before .encode .ensures ∙ rw (few, room, word-plain _ _ (c .before .before .before .before .before .conv-code .ensures) (c .before .before .before .before .matrix .ensures) _))
+    let few = le-ltb _ _ (c .before .before .before .before .before .if1 .left) in
+    let room = le-ltb _ _ (c .before .before .before .before .if2 .left) in
+    (rw (few, room), c .before .before .encode-at .ensures ∙ rw (few, room, word-plain (c .before .before .before .before .before .before .before .before .args .bits .now)))
 
 pub conv-encode-spec : {M : Type 1} → statement M
 conv-encode-spec =
@@ -60,8 +51,6 @@ conv-encode-spec =
     mul-need
     no-count-requires-2
     returns-2
-    conv-code-requires
-    matrix-requires
-    encode-requires
+    encode-at-requires
     same-length
     returns-3)

@@ -5,7 +5,7 @@ use native.Mathlib.Omega.{arith}
 use borrow.Author.Needs.{needs}
 use lib.ListN.{length}
 use Rattle.encoder.proofs.Checks.{Passed, passed, said-short, said-fits, refused-too, kept-too}
-use Rattle.encoder.proofs.Selected.{chosen-narrow, chosen-rows, length-chosen, word-chosen}
+use Rattle.encoder.proofs.Selected.{chosen-narrow, length-chosen, word-chosen}
 use Rattle.encoder.proofs.conv_encode_punctured_with.Statement.{statement}
 use Rattle.encoder.proofs.conv_encode_punctured_with.Tie as tie
 
@@ -45,29 +45,25 @@ returns-2 c =
 conv-code-requires : tie.Need-conv-code-requires
 conv-code-requires c κs = search needs
 
-matrix-requires : tie.Need-matrix-requires
-matrix-requires c κs = search needs
+add-encode-at : tie.Need-add-encode-at
+add-encode-at c = omega (arith, chosen-narrow _ _ (c .before .conv-code .ensures) .narrow, length-passed (c .before .before .before) .few)
 
-add-encode : tie.Need-add-encode
-add-encode c = omega (arith, chosen-narrow _ _ (c .before .before .conv-code .ensures) .narrow, length-passed (c .before .before .before .before) .few)
-
-encode-requires : tie.Need-encode-requires
-encode-requires c κs =
-    let code = c .before .before .before .conv-code .ensures in
-    let keep = c .before .before .matrix .ensures in
-    let args = start (c .before .before .before .before .before) .args in
-    let same = length-chosen (args .code) (args .rate) _ _ code keep (length (args .info .now)) in
-    (chosen-narrow _ _ code, (chosen-rows _ _ keep, omega (arith, same, length-passed (c .before .before .before .before .before) .need, c .before .before .before .before .if1 .left)))
+encode-at-requires : tie.Need-encode-at-requires
+encode-at-requires c κs =
+    let code = c .before .before .conv-code .ensures in
+    let args = start (c .before .before .before .before) .args in
+    let same = length-chosen (args .code) (args .rate) _ code (length (args .info .now)) in
+    omega (arith, same, length-passed (c .before .before .before .before) .need, c .before .before .before .if1 .left)
 
 same-length : tie.Need-same-length
 same-length c = search needs
 
 returns-3 : tie.Need-returns-3
 returns-3 c =
-    let said = said-fits _ _ _ _ _ (length-passed (c .before .before .before .before .before .before .before .before)) (c .before .before .before .before .before .before .before .if1 .left) in
-    let args = start (c .before .before .before .before .before .before .before .before) .args in
-    let word = word-chosen (args .code) (args .rate) _ _ (c .before .before .before .before .before .before .conv-code .ensures) (c .before .before .before .before .before .matrix .ensures) (args .info .now) in
-    (sym said, c .before .before .encode .ensures ∙ rw (said, word))
+    let said = said-fits _ _ _ _ _ (length-passed (c .before .before .before .before .before .before .before)) (c .before .before .before .before .before .before .if1 .left) in
+    let args = start (c .before .before .before .before .before .before .before) .args in
+    let word = word-chosen (args .code) (args .rate) _ (c .before .before .before .before .before .conv-code .ensures) (args .info .now) in
+    (sym said, c .before .before .encode-at .ensures ∙ rw (said, word))
 
 pub conv-encode-punctured-with-spec : {M : Type 1} → statement M
 conv-encode-punctured-with-spec =
@@ -80,8 +76,7 @@ conv-encode-punctured-with-spec =
     no-count-requires
     returns-2
     conv-code-requires
-    matrix-requires
-    add-encode
-    encode-requires
+    add-encode-at
+    encode-at-requires
     same-length
     returns-3)

@@ -120,9 +120,9 @@ loop-again c =
     let args = start head .args in
     let input = c .before .before .before .before .before .before .before .before .before .before .before .input-at .ensures in
     let both =
-        put-adds (sent head ++ first head) (args .out .now) _ _ _ _ (keeps head (args .keep .row1)) _ _ (first-put (c .before .before .before .before .before .before .before .before))
-        (second-coded (args .code) (start head .pre .0) (bytes head) (t head) (loop .s) _ (loop .inv .1) input _ (c .before .before .before .before .before .before .before .before .before .before .branch-bits .ensures))
-        (c .before .before .before .before .put2 .ensures .0) (c .before .before .before .before .put2 .ensures .1) (c .before .before .before .before .put2 .kept .1 .1 .1 .0) in (
+    put-adds (sent head ++ first head) (args .out .now) _ _ _ _ (keeps head (args .keep .row1)) _ _ (first-put (c .before .before .before .before .before .before .before .before))
+    (second-coded (args .code) (start head .pre .0) (bytes head) (t head) (loop .s) _ (loop .inv .1) input _ (c .before .before .before .before .before .before .before .before .before .before .branch-bits .ensures))
+    (c .before .before .before .before .put2 .ensures .0) (c .before .before .before .before .put2 .ensures .1) (c .before .before .before .before .put2 .kept .1 .1 .1 .0) in (
       omega (arith, c .before .before .before .before .before .before .before .before .before .before .before .before .loop-test .taken),
       state-next (args .code) (start head .pre .0) (bytes head) (t head) (loop .s) _ (loop .inv .1) input _ (c .before .next-state .ensures),
       fronted-as _ _ _ _ _

@@ -5,7 +5,7 @@ use borrow.Author.Needs.{needs}
 use borrow.Author.Tests.{lt-ltb, le-ltb}
 use Rattle.refusal.specs.Answer.{accepted}
 use Rattle.encoder.specs.Encode.{lengthSaid}
-use Rattle.encoder.proofs.Selected.{chosen-narrow, chosen-rows, length-chosen}
+use Rattle.encoder.proofs.Selected.{chosen-narrow, chosen-rows, length-held, length-chosen}
 use Rattle.encoder.proofs.punctured_coded_len_with.Statement.{statement}
 use Rattle.encoder.proofs.punctured_coded_len_with.Tie as tie
 
@@ -50,7 +50,7 @@ unfolding lengthSaid
 returns-4 c =
     let tests = c .before .before .before .before in
     rw (lt-ltb _ _ (tests .before .before .if1 .left), lt-ltb _ _ (tests .before .if2 .left), le-ltb _ _ (tests .if3 .left))
-    (ap accepted (c .coded-len .ensures ∙ length-chosen _ _ _ _ (c .before .before .before .conv-code .ensures) (c .before .before .matrix .ensures) _))
+    (ap accepted (c .coded-len .ensures ∙ length-held _ _ (c .before .before .matrix .ensures) _ ∙ length-chosen _ _ _ (c .before .before .before .conv-code .ensures) _))
 
 pub punctured-coded-len-with-spec : {M : Type 1} → statement M
 punctured-coded-len-with-spec =
