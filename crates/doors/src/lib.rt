@@ -2,21 +2,9 @@
 // or on a refusal its number times 2^32 plus the place.
 ghost use mathlib.Core.Path.{_≡_};
 ghost use lib.ListN.{length};
-ghost use Rattle.refusal.specs.Answer.{countSaid};
+ghost use Rattle.refusal.specs.Answer.{doorNumber};
 ghost use Rattle.refusal.specs.Lent.{leaves};
 ghost use Rattle.encoder.specs.Encode.{lengthSaid, encodeSaid, encodeWord, plainSaid, plainWord};
-ghost use Rattle.doors.specs.Door.{doorNumber};
-use refusal::Counted;
-
-// A count's answer as one number.
-fn count_number(answer: Counted) -> u64
-    ensures { λ r. ⌜ r ≡ doorNumber (countSaid answer) ⌝ }
-{
-    match answer {
-        Counted::Count(n) => n as u64,
-        Counted::Refused(r) => (r.number as u64) * 0x1_0000_0000 + (r.place as u64),
-    }
-}
 
 // Plain K5 at rate 1/2, with no zeros added.
 #[no_mangle]
@@ -24,7 +12,7 @@ pub extern "C" fn relay_conv_encode(bits: &[u8], out: &mut [u8]) -> u64
     ensures answer { λ r. ⌜ r ≡ doorNumber (plainSaid (length (now (bits .entry))) (length (now (out .entry)))) ⌝ }
     ensures output { λ r. ⌜ now (out .exit) ≡ leaves (plainSaid (length (now (bits .entry))) (length (now (out .entry)))) (plainWord (now (bits .entry))) (now (out .entry)) ⌝ }
 {
-    count_number(encoder::conv_encode(bits, out))
+    refusal::count_number(encoder::conv_encode(bits, out))
 }
 
 // The zero-tailed, punctured codeword of the info bits.
@@ -33,7 +21,7 @@ pub extern "C" fn relay_encode(code: u8, rate: u8, info: &[u8], out: &mut [u8]) 
     ensures answer { λ r. ⌜ r ≡ doorNumber (encodeSaid code rate (length (now (info .entry))) (length (now (out .entry)))) ⌝ }
     ensures output { λ r. ⌜ now (out .exit) ≡ leaves (encodeSaid code rate (length (now (info .entry))) (length (now (out .entry)))) (encodeWord code rate (now (info .entry))) (now (out .entry)) ⌝ }
 {
-    count_number(encoder::conv_encode_punctured_with(code, info, rate, out))
+    refusal::count_number(encoder::conv_encode_punctured_with(code, info, rate, out))
 }
 
 // How many coded bits an info count gives.
@@ -41,5 +29,5 @@ pub extern "C" fn relay_encode(code: u8, rate: u8, info: &[u8], out: &mut [u8]) 
 pub extern "C" fn relay_coded_len(code: u8, rate: u8, info: usize) -> u64
     ensures { λ r. ⌜ r ≡ doorNumber (lengthSaid code rate info) ⌝ }
 {
-    count_number(encoder::punctured_coded_len_with(code, info, rate))
+    refusal::count_number(encoder::punctured_coded_len_with(code, info, rate))
 }

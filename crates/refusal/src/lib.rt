@@ -1,6 +1,6 @@
 // What an entry answers: its value, or a refusal with document 01's number and a place.
 ghost use mathlib.Core.Path.{_≡_};
-ghost use Rattle.refusal.specs.Answer.{countSaid, refused};
+ghost use Rattle.refusal.specs.Answer.{countSaid, refused, doorNumber};
 
 // The most info bits or symbols that one call may bring.
 pub const MOST: usize = 4096;
@@ -30,4 +30,14 @@ pub fn no_count(number: u8) -> Counted
     ensures { λ r. ⌜ countSaid r ≡ refused number 0 ⌝ }
 {
     Counted::Refused(Refusal { number, place: 0 })
+}
+
+// A count's answer as the one number that a door returns.
+pub fn count_number(answer: Counted) -> u64
+    ensures { λ r. ⌜ r ≡ doorNumber (countSaid answer) ⌝ }
+{
+    match answer {
+        Counted::Count(n) => n as u64,
+        Counted::Refused(r) => (r.number as u64) * 0x1_0000_0000 + (r.place as u64),
+    }
 }

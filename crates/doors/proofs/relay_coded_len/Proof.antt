@@ -1,7 +1,7 @@
 -- `doors::relay_coded_len`: the coded length's answer as a number. Assumes nothing.
 use mathlib.Core.Path.{ap, _∙_}
 use borrow.Author.Needs.{needs}
-use Rattle.doors.specs.Door.{doorNumber}
+use Rattle.refusal.specs.Answer.{doorNumber}
 use Rattle.doors.proofs.relay_coded_len.Statement.{statement}
 use Rattle.doors.proofs.relay_coded_len.Tie as tie
 

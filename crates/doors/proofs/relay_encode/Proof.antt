@@ -1,7 +1,7 @@
 -- `doors::relay_encode`: the encoder's answer as a number. Assumes nothing.
 use mathlib.Core.Path.{ap, _∙_}
 use borrow.Author.Needs.{needs}
-use Rattle.doors.specs.Door.{doorNumber}
+use Rattle.refusal.specs.Answer.{doorNumber}
 use Rattle.doors.proofs.relay_encode.Statement.{statement}
 use Rattle.doors.proofs.relay_encode.Tie as tie
 

@@ -1,11 +1,10 @@
--- `doors::count_number`: its two arms. Assumes nothing.
+-- `refusal::count_number`: its two arms. Assumes nothing.
 use mathlib.Core.Path.{sym, ap}
 use borrow.Author.Needs.{needs}
 use Rattle.refusal.specs.declared.Counted.{Counted}
-use Rattle.refusal.specs.Answer.{countSaid}
-use Rattle.doors.specs.Door.{doorNumber}
-use Rattle.doors.proofs.count_number.Statement.{statement}
-use Rattle.doors.proofs.count_number.Tie as tie
+use Rattle.refusal.specs.Answer.{countSaid, doorNumber}
+use Rattle.refusal.proofs.count_number.Statement.{statement}
+use Rattle.refusal.proofs.count_number.Tie as tie
 
 enum-known-answer : tie.Need-enum-known-answer
 enum-known-answer c = search needs

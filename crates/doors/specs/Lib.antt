@@ -1,2 +1,0 @@
--- Door: an answer as the one number that a door returns.
-pub mod Door

@@ -1,0 +1,5 @@
+-- Hex: what one more digit, or one more pair of digits, adds to what a field spells. Marked: a list of which every element was set.
+-- Moved: what one more byte adds to a copy to the front.
+pub mod Hex
+pub mod Marked
+pub mod Moved
