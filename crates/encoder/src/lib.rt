@@ -135,10 +135,10 @@ pub fn conv_encode(bits: &[u8], out: &mut [u8]) -> Counted
     if refusal::MOST < count {
         return refusal::no_count(3);
     }
-    let need = 2 * count;
-    if out.len() < need {
+    let twice = 2 * count;
+    if out.len() < twice {
         return refusal::no_count(4);
     }
     encode_at(0, 0, bits, count, out);
-    Counted::Count(need)
+    Counted::Count(twice)
 }

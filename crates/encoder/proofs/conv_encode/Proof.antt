@@ -9,6 +9,9 @@ use Rattle.encoder.proofs.Selected.{length-plain, word-plain}
 use Rattle.encoder.proofs.conv_encode.Statement.{statement}
 use Rattle.encoder.proofs.conv_encode.Tie as tie
 
+encode-at-requires : tie.Need-encode-at-requires
+encode-at-requires c κs = omega (arith, length-plain (length (c .before .before .before .before .before .args .bits .now)), c .before .if2 .left)
+
 no-count-requires : tie.Need-no-count-requires
 no-count-requires c κs = search needs
 
@@ -16,8 +19,8 @@ returns : tie.Need-returns
 unfolding plainSaid
 returns c = (c .no-count .ensures ∙ rw (lt-ltb _ _ (c .before .if1 .taken)), rw (lt-ltb _ _ (c .before .if1 .taken)))
 
-mul-need : tie.Need-mul-need
-mul-need c = search needs
+mul-twice : tie.Need-mul-twice
+mul-twice c = search needs
 
 no-count-requires-2 : tie.Need-no-count-requires-2
 no-count-requires-2 c κs = search needs
@@ -28,9 +31,6 @@ returns-2 c =
     let few = le-ltb _ _ (c .before .before .if1 .left) in
     let short = lt-ltb _ _ (c .before .if2 .taken) in
     (c .no-count2 .ensures ∙ rw (few, short), rw (few, short))
-
-encode-at-requires : tie.Need-encode-at-requires
-encode-at-requires c κs = omega (arith, length-plain (length (c .before .before .before .before .before .args .bits .now)), c .before .if2 .left)
 
 same-length : tie.Need-same-length
 same-length c = search needs
@@ -48,7 +48,7 @@ conv-encode-spec =
     (tie.spec
     no-count-requires
     returns
-    mul-need
+    mul-twice
     no-count-requires-2
     returns-2
     encode-at-requires
