@@ -15,4 +15,4 @@ mod encoder;
 mod refusal;
 
 pub use encoder::{Code, INFO_LIMIT, Rate, coded_len, conv_encode, conv_encode_into, encode, encode_into};
-pub use refusal::Refusal;
+pub use refusal::{Refusal, count};

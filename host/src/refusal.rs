@@ -21,7 +21,7 @@ impl fmt::Display for Refusal {
 impl Error for Refusal {}
 
 /// Reads the answer of a door that counts: a refusal's number stands above the lowest 32 bits.
-pub(crate) fn count(answer: u64) -> Result<usize, Refusal> {
+pub fn count(answer: u64) -> Result<usize, Refusal> {
     let (number, low) = ((answer >> 32) as u32, answer as u32);
     if number == 0 {
         Ok(low as usize)
