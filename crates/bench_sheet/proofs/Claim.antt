@@ -1,9 +1,10 @@
 -- Every line of the bench sheet holds, by computing the definitions. Assumes nothing.
 use mathlib.Core.Path.{refl}
+use Rattle.binary.specs.Digits.{digits}
 use Rattle.trellis.specs.Choice.{patternOf}
 use Rattle.trellis.specs.Codeword.{windowAt, coded0, coded1, sentBy, lowestBits, zeroTailed, codeword}
 use Rattle.trellis.specs.Keep.{keepsBy, keptOf, keptThrough, onesOf, codedLength}
-use Rattle.trellis.specs.Register.{digits, tapped, codedBit, shifted, registerAfter}
+use Rattle.trellis.specs.Register.{tapped, codedBit, shifted, registerAfter}
 use Rattle.bench_sheet.specs.Sheet.{AllHold, sheet}
 
 pub claim : AllHold sheet

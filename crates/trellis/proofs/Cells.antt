@@ -11,20 +11,10 @@ use lib.Bits.{bitAnd, block-half, and-block, and-le-l, and-mod}
 use lib.Count.{ones, ones-cat}
 use lib.ListN.{length}
 use lib.Pow.{pow-pos, split}
-use Rattle.trellis.specs.Register.{digits, tapped, codedBit, shifted}
-use Rattle.trellis.specs.State.{value, parityOf}
-
--- a list of bits
-pub data Bits : List ℕ → Type 0 where
-  none : Bits []
-  more : {c : ℕ} {cs : List ℕ} → c < 2 → Bits cs → Bits (c ∷ cs)
-
-pub value-below : {cs : List ℕ} → Bits cs → value cs < 2 ^ length cs
-unfolding value
-value-below none = omega arith
-value-below (more {c} {cs} h r) =
-    subst (λ (n : ℕ). c * 2 ^ length cs + value cs < n) (mul-comm 2 (2 ^ length cs) ∙ sym (pow-suc 2 (length cs)))
-    (digits-lt h (value-below r))
+use Rattle.binary.specs.Digits.{digits, value}
+use Rattle.binary.proofs.Values.{Bits, none, more, value-below}
+use Rattle.trellis.specs.Register.{tapped, codedBit, shifted}
+use Rattle.trellis.specs.State.{parityOf}
 
 pub length-shifted : (b : ℕ) (cs : List ℕ) → length (shifted b cs) ≡ length cs
 unfolding shifted

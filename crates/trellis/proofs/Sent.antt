@@ -6,12 +6,14 @@ use native.Mathlib.Nat.{mod-lt}
 use native.Mathlib.Omega.{arith}
 use lib.Dec.{lit<}
 use lib.ListN.{length, getD, replicate, List·getD-map}
+use Rattle.binary.specs.Digits.{value}
+use Rattle.binary.proofs.Values.{more}
 use Rattle.trellis.specs.declared.ConvCode.{ConvCode}
 use Rattle.trellis.specs.Register.{codedBit, shifted, registerAfter}
 use Rattle.trellis.specs.Keep.{Keep, Pattern, keptOf, keptThrough, codedLength}
 use Rattle.trellis.specs.Codeword.{windowAt, coded0, coded1, sentBy, lowestBits, zeroTailed, stepsOf, codeword}
-use Rattle.trellis.specs.State.{value, window, parityOf, stateAfter}
-use Rattle.trellis.proofs.Cells.{Bits, more, coded-parity}
+use Rattle.trellis.specs.State.{window, parityOf, stateAfter}
+use Rattle.trellis.proofs.Cells.{coded-parity}
 use Rattle.trellis.proofs.States.{Inputs, length-register, register-bits, register-state}
 use Rattle.trellis.proofs.Kept.{length-kept}
 

@@ -11,10 +11,12 @@ use lib.Bits.{block-half}
 use lib.Dec.{lit<}
 use lib.ListN.{length, getD, replicate, length-replicate}
 use lib.Pow.{pow-pos, shr-lt}
+use Rattle.binary.specs.Digits.{value}
+use Rattle.binary.proofs.Values.{Bits, none, more}
 use Rattle.trellis.specs.declared.ConvCode.{ConvCode}
 use Rattle.trellis.specs.Register.{shifted, registerAfter}
-use Rattle.trellis.specs.State.{value, window, nextState, stateAfter}
-use Rattle.trellis.proofs.Cells.{Bits, none, more, length-shifted, shifted-bits, value-shifted}
+use Rattle.trellis.specs.State.{window, nextState, stateAfter}
+use Rattle.trellis.proofs.Cells.{length-shifted, shifted-bits, value-shifted}
 
 -- each input is a bit
 abbrev pub Inputs : List ℕ → Type 0

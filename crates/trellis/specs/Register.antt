@@ -1,14 +1,10 @@
 -- The shift register, of any width: a list of cells, newest first. Definitions only.
 use mathlib.Core.List.{List, [], _∷_}
-use Prim.Native.Nat.{ℕ, zero, suc, _+_, _*_, _/_, _%_, _^_}
+use Prim.Native.Nat.{ℕ, zero, suc, _+_, _*_, _%_}
 use lib.ListN.{length, getD, replicate}
+use Rattle.binary.specs.Digits.{digits}
 
--- the k lowest binary digits of a tap word, top first, as it is written: of 0b10101 the five are 1 0 1 0 1
-unfoldable pub digits : ℕ → ℕ → List ℕ
-digits zero n = []
-digits (suc k) n = n / 2 ^ k % 2 ∷ digits k n
-
--- how many ones the window has under the ones of a tap word
+-- how many ones the window has under the ones of a tap word, whose digits are written top first
 unfoldable pub tapped : List ℕ → List ℕ → ℕ
 tapped (d ∷ ds) (c ∷ cs) = d * c + tapped ds cs
 tapped [] cs = 0

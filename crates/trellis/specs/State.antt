@@ -1,15 +1,10 @@
 -- The register as a number, its newest cell the top bit: what the code computes with. Definitions only.
-use mathlib.Core.List.{List, [], _∷_}
+use mathlib.Core.List.{List}
 use Prim.Native.Nat.{ℕ, zero, suc, _+_, _-_, _*_, _/_, _%_, _^_}
 use lib.Bits.{bitAnd}
 use lib.Count.{ones}
-use lib.ListN.{length, getD}
+use lib.ListN.{getD}
 use Rattle.trellis.specs.declared.ConvCode.{ConvCode}
-
--- a list of bits as a number, top bit first
-unfoldable pub value : List ℕ → ℕ
-value [] = 0
-value (c ∷ cs) = c * 2 ^ length cs + value cs
 
 -- the input bit above the register
 abbrev pub window : ConvCode → ℕ → ℕ → ℕ

@@ -1,0 +1,2 @@
+-- Values: the number that digits make.
+pub mod Values
