@@ -5,8 +5,11 @@ use Rattle.trellis.specs.Choice.{patternOf}
 use Rattle.trellis.specs.Codeword.{windowAt, coded0, coded1, sentBy, lowestBits, zeroTailed, codeword}
 use Rattle.trellis.specs.Keep.{keepsBy, keptOf, keptThrough, onesOf, codedLength}
 use Rattle.trellis.specs.Register.{tapped, codedBit, shifted, registerAfter}
+use Rattle.varicode_words.specs.Word.{lengthOf, wordOf, bitsOf, found, decodeOf}
+use Rattle.varicode.specs.Reader.{letterAt, heardAfter, lettersFrom}
+use Rattle.varicode.specs.Writer.{bitsPut, firstAfter, streamFrom}
 use Rattle.bench_sheet.specs.Sheet.{AllHold, sheet}
 
 pub claim : AllHold sheet
-unfolding digits tapped codedBit shifted registerAfter keepsBy keptOf keptThrough onesOf codedLength windowAt coded0 coded1 sentBy lowestBits zeroTailed codeword patternOf
-claim = (refl, (refl, (refl, (refl, (refl, tt)))))
+unfolding digits tapped codedBit shifted registerAfter keepsBy keptOf keptThrough onesOf codedLength windowAt coded0 coded1 sentBy lowestBits zeroTailed codeword patternOf lengthOf wordOf bitsOf found decodeOf letterAt heardAfter lettersFrom bitsPut firstAfter streamFrom
+claim = (refl, (refl, (refl, (refl, (refl, (refl, (refl, (refl, (refl, tt)))))))))

@@ -1,12 +1,14 @@
 -- An answer is fixed by what document 01 says of it: two answers of which it says the same are equal. Assumes nothing.
 use mathlib.Core.Path.{_≡_, ap, ap₂}
 use Prim.Native.Nat.{ℕ}
-use Rattle.refusal.specs.Answer.{countSaid, wordSaid}
+use Rattle.refusal.specs.Answer.{countSaid, wordSaid, doneSaid}
 use Rattle.refusal.specs.declared.Refusal.{Refusal}
 use Rattle.refusal.specs.declared.Counted.{Counted}
 use Rattle.refusal.specs.declared.Counted.the-variants as counted
 use Rattle.refusal.specs.declared.Decoded.{Decoded}
 use Rattle.refusal.specs.declared.Decoded.the-variants as decoded
+use Rattle.refusal.specs.declared.Put.{Put}
+use Rattle.refusal.specs.declared.Put.the-variants as put
 
 abbrev made : ℕ → ℕ → Refusal
 made n p = record { number = n; place = p }
@@ -25,3 +27,9 @@ word-told (decoded.Word m) (decoded.Word n) e = cc
 word-told (decoded.Word m) (decoded.Refused r) e = cc
 word-told (decoded.Refused q) (decoded.Word n) e = cc
 word-told (decoded.Refused q) (decoded.Refused r) e = ap decoded.Refused (same-refusal q r (cc) (cc))
+
+pub done-told : (a b : Put) → doneSaid a ≡ doneSaid b → a ≡ b
+done-told put.Done put.Done e = cc
+done-told put.Done (put.Refused r) e = cc
+done-told (put.Refused q) put.Done e = cc
+done-told (put.Refused q) (put.Refused r) e = ap put.Refused (same-refusal q r (cc) (cc))

@@ -6,6 +6,8 @@ use Rattle.refusal.specs.declared.Counted.{Counted}
 use Rattle.refusal.specs.declared.Counted.the-variants as counted
 use Rattle.refusal.specs.declared.Decoded.{Decoded}
 use Rattle.refusal.specs.declared.Decoded.the-variants as decoded
+use Rattle.refusal.specs.declared.Put.{Put}
+use Rattle.refusal.specs.declared.Put.the-variants as put
 
 pub data Said (A : Type 0) : Type 0 where
   accepted : A → Said A
@@ -20,6 +22,11 @@ countSaid (counted.Refused r) = refused (r .number) (r .place)
 abbrev pub wordSaid : Decoded → Said Float
 wordSaid (decoded.Word score) = accepted score
 wordSaid (decoded.Refused r) = refused (r .number) (r .place)
+
+-- nothing but that it is done, or the refusal's number and place
+abbrev pub doneSaid : Put → Said Unit
+doneSaid put.Done = accepted tt
+doneSaid (put.Refused r) = refused (r .number) (r .place)
 
 -- Refusal `number` at place 0 exactly when the test holds. Tests stand in 01's order, lowest number first, one within the other.
 abbrev pub refuseWhen : {A : Type 0} → Bool → ℕ → Said A → Said A

@@ -1,6 +1,6 @@
 // What an entry answers: its value, or a refusal with document 01's number and a place.
 ghost use mathlib.Core.Path.{_≡_};
-ghost use Rattle.refusal.specs.Answer.{countSaid, refused, doorNumber};
+ghost use Rattle.refusal.specs.Answer.{countSaid, doneSaid, refused, doorNumber};
 
 // The most info bits or symbols that one call may bring.
 pub const MOST: usize = 4096;
@@ -25,11 +25,24 @@ pub enum Decoded {
     Refused(Refusal),
 }
 
+// The answer of a call that only changes a state: it is done, or a refusal.
+pub enum Put {
+    Done,
+    Refused(Refusal),
+}
+
 // The refusal of a call whose answer is a count, at place 0.
 pub fn no_count(number: u8) -> Counted
     ensures { λ r. ⌜ countSaid r ≡ refused number 0 ⌝ }
 {
     Counted::Refused(Refusal { number, place: 0 })
+}
+
+// The refusal of a call that only changes a state, at place 0.
+pub fn not_done(number: u8) -> Put
+    ensures { λ r. ⌜ doneSaid r ≡ refused number 0 ⌝ }
+{
+    Put::Refused(Refusal { number, place: 0 })
 }
 
 // A count's answer as the one number that a door returns.

@@ -1,0 +1,3 @@
+-- Rings: what is inside a ring of any capacity, after each of its steps. Turns: a loop that puts elements in one by one.
+pub mod Rings
+pub mod Turns

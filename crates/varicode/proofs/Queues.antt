@@ -1,0 +1,60 @@
+-- Taking out of a queue within its array, over any capacity: its front comes out, and the rest stays in order. Assumes nothing.
+use mathlib.Core.Bool.{Bool, true, false, cond}
+use mathlib.Core.List.{List, [], _∷_, _++_, append-assoc}
+use mathlib.Core.Logic.{_⊎_, ⊎-elim}
+use mathlib.Core.Path.{_≡_, refl, sym, ap, _∙_}
+use Prim.Native.Nat.{ℕ, _<_}
+use native.Mathlib.Nat.{eq-zero-or-pos}
+use native.Mathlib.Omega.{arith}
+use borrow.Author.Tests.{eqb-false}
+use lib.Dec.{eqb}
+use Rattle.queue.specs.Ring.{Ring, Whole, front, rest, inside}
+use Rattle.queue.proofs.Rings.{read-whole, rest-whole, inside-rest}
+use Rattle.refusal.specs.Answer.{Said, accepted, refuseWhen}
+use Rattle.varicode.specs.declared.Taken.the-variants.{One, Nothing}
+use Rattle.varicode.specs.Take.{taken, left}
+
+module _ (cap : ℕ) (p : Ring) (whole : Whole cap p) where
+  -- a test on the count settles what is taken
+  one-means-some : (v : ℕ) (none : Bool) → cond none Nothing (One (front p)) ≡ One v → (none ≡ false) × (front p ≡ v)
+  one-means-some v true e = absurd (let z : _≡_ {A = ℕ} 0 1 = cc in omega arith)
+  one-means-some v false e = (refl, cc)
+
+  none-means-empty : (none : Bool) → cond none Nothing (One (front p)) ≡ Nothing → none ≡ true
+  none-means-empty true e = refl
+  none-means-empty false e = absurd (let z : _≡_ {A = ℕ} 0 1 = cc in omega arith)
+
+  taken-read : taken cap p ≡ cond (eqb (p .count) 0) Nothing (One (front p))
+  unfolding taken
+  taken-read = ap (λ (q : Ring). cond (eqb (q .count) 0) Nothing (One (front q))) (read-whole whole)
+
+  left-read : left cap p ≡ cond (eqb (p .count) 0) p (rest cap p)
+  unfolding left
+  left-read = ap (λ (q : Ring). cond (eqb (q .count) 0) p (rest cap q)) (read-whole whole)
+
+  pub record Handed (v : ℕ) : Type 0 where
+    pub left-whole : Whole cap (left cap p)
+    pub order : inside cap p ≡ v ∷ inside cap (left cap p)
+
+  pub handed : (v : ℕ) → taken cap p ≡ One v → Handed v
+  handed v e =
+      let settled = one-means-some v (eqb (p .count) 0) (sym taken-read ∙ e) in
+      let some : 0 < p .count =
+      ⊎-elim (λ (z : p .count ≡ 0). absurd (eqb-false _ _ (settled .0) z)) (λ (h : 0 < p .count). h) (eq-zero-or-pos (p .count)) in
+      let same : left cap p ≡ rest cap p = left-read ∙ ap (λ (b : Bool). cond b p (rest cap p)) (settled .0) in
+      record {
+        left-whole = rw same (rest-whole whole some);
+        order = inside-rest whole some ∙ rw (same, settled .1);
+      }
+
+  pub kept : taken cap p ≡ Nothing → left cap p ≡ p
+  kept e = left-read ∙ ap (λ (b : Bool). cond b p (rest cap p)) (none-means-empty (eqb (p .count) 0) (sym taken-read ∙ e))
+
+-- an element that moved from the front of a list to the end of the one before it
+pub behind : (out : List ℕ) (v : ℕ) (l : List ℕ) → (out ++ v ∷ []) ++ l ≡ out ++ v ∷ l
+behind out v l = append-assoc out (v ∷ []) l
+
+-- an accepted call was refused for nothing
+pub accepted-means : (number : ℕ) (test : Bool) (rest : Said Unit) → refuseWhen test number rest ≡ accepted tt → test ≡ false
+accepted-means number true rest e = absurd (let z : _≡_ {A = ℕ} 0 1 = cc in omega arith)
+accepted-means number false rest e = refl

@@ -1,0 +1,92 @@
+-- The Varicode reader: what each bit brings, and the queue of 64 characters that they go through. Definitions only.
+use mathlib.Core.Bool.{Bool, true, false, cond}
+use mathlib.Core.List.{List, [], _∷_, _++_}
+use Prim.Native.Nat.{ℕ, _+_, _-_, _*_, _/_, _%_, min}
+use lib.Dec.{ltb, eqb}
+use Rattle.refusal.specs.Answer.{Said, accepted, refuseWhen}
+use Rattle.queue.specs.Ring.{Ring, empty, readAs, putOne}
+use Rattle.varicode_words.specs.declared.Letter.{Letter}
+use Rattle.varicode_words.specs.declared.Letter.the-variants as letter
+use Rattle.varicode_words.specs.Word.{decodeOf}
+use Rattle.varicode.specs.Take.{left}
+
+-- what the reader remembers of the word that it is in: its bits, how many, and whether the last was a zero
+pub record Heard : Type 0 where
+  pub shift : ℕ
+  pub len : ℕ
+  pub prevZero : Bool
+
+abbrev pub nothingHeard : Heard
+nothingHeard = record { shift = 0; len = 0; prevZero = false }
+
+-- A zero after a remembered zero ends the word.
+abbrev pub ends : Heard → ℕ → Bool
+ends h b = cond (eqb b 0) (h .prevZero) false
+
+-- The word's trailing zero is dropped, and it is looked up by bits and length.
+unfoldable pub letterAt : Heard → ℕ → Letter
+letterAt h b = cond (ends h b) (decodeOf (h .shift / 2) (h .len - 1)) letter.Nothing
+
+-- Otherwise the bit joins a 16-bit shift and the length counts up to 11.
+abbrev pub joinedTo : Heard → ℕ → Heard
+joinedTo h b = record { shift = (2 * h .shift + b) % 65536; len = min (h .len + 1) 11; prevZero = eqb b 0 }
+
+-- At a word's end everything is forgotten, the zeros included.
+unfoldable pub heardAfter : Heard → ℕ → Heard
+heardAfter h b = cond (ends h b) nothingHeard (joinedTo h b)
+
+-- the characters of several bits, one after the other
+abbrev pub lettersOf : Letter → List ℕ
+lettersOf (letter.Byte c) = c ∷ []
+lettersOf letter.Nothing = []
+
+unfoldable pub lettersFrom : Heard → List ℕ → List ℕ
+unfolding letterAt heardAfter
+lettersFrom h [] = []
+lettersFrom h (b ∷ bs) = lettersOf (letterAt h b) ++ lettersFrom (heardAfter h b) bs
+
+-- ---- the queue
+
+pub record Reader : Type 0 where
+  pub heard : Heard
+  pub chars : Ring
+
+abbrev pub charRoom : ℕ
+charRoom = 64
+
+unfoldable pub freshReader : Reader
+freshReader = record { heard = nothingHeard; chars = empty charRoom }
+
+-- a record may be forged: its length is read modulo one more than its largest value
+abbrev pub readHeard : Heard → Heard
+readHeard h = record { shift = h .shift; len = h .len % 12; prevZero = h .prevZero }
+
+-- the character that a bit brings
+unfoldable pub brought : Reader → ℕ → Letter
+unfolding letterAt
+brought r b = letterAt (readHeard (r .heard)) b
+
+-- the character doesn't fit
+abbrev pub noRoom : Letter → Ring → Bool
+noRoom (letter.Byte c) q = eqb (readAs charRoom q .count) charRoom
+noRoom letter.Nothing q = false
+
+-- refusal 8 exactly when the bit is above 1, and then 9 exactly when the character doesn't fit
+unfoldable pub bitSaid : Reader → ℕ → Said Unit
+unfolding brought
+bitSaid r b = refuseWhen (ltb 1 b) 8 (refuseWhen (noRoom (brought r b) (r .chars)) 9 (accepted tt))
+
+abbrev pub withLetter : Letter → Ring → Ring
+withLetter (letter.Byte c) q = putOne charRoom (readAs charRoom q) c
+withLetter letter.Nothing q = q
+
+-- the reader after a bit; as it came where the call is refused
+unfoldable pub bitLeaves : Reader → ℕ → Reader
+unfolding brought heardAfter
+bitLeaves r b =
+    cond (ltb 1 b) r (cond (noRoom (brought r b) (r .chars)) r
+    (record { heard = heardAfter (readHeard (r .heard)) b; chars = withLetter (brought r b) (r .chars) }))
+
+-- the reader after its next character is taken out
+abbrev pub charLeaves : Reader → Reader
+charLeaves r = record { heard = r .heard; chars = left charRoom (r .chars) }

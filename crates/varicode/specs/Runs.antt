@@ -1,0 +1,45 @@
+-- Runs: calls one after the other from a fresh writer or reader, every one accepted, in any order and with takings-out anywhere between.
+-- Definitions only.
+use mathlib.Core.List.{List, [], _∷_, _++_, map}
+use mathlib.Core.Path.{_≡_}
+use Prim.Native.Nat.{ℕ, _<_}
+use Rattle.refusal.specs.Answer.{accepted}
+use Rattle.varicode.specs.declared.Taken.the-variants.{One, Nothing}
+use Rattle.varicode.specs.Take.{taken}
+use Rattle.varicode.specs.Writer.{Writer, Call, byte, closing, bitRoom, freshWriter, putSaid, putLeaves, nextLeaves}
+use Rattle.varicode.specs.Reader.{Reader, charRoom, freshReader, bitSaid, bitLeaves, charLeaves}
+
+-- the writer that the run ends in, the calls that put bits, and the bits that were taken out, each in order
+pub data WriterRun : Writer → List Call → List ℕ → Type 0 where
+  start : WriterRun freshWriter [] []
+  puts :
+      {w : Writer} {calls : List Call} {out : List ℕ} → WriterRun w calls out → (c : Call) → putSaid w c ≡ accepted tt →
+      WriterRun (putLeaves w c) (calls ++ c ∷ []) out
+  takes :
+      {w : Writer} {calls : List Call} {out : List ℕ} → WriterRun w calls out → (v : ℕ) → taken bitRoom (w .pending) ≡ One v →
+      WriterRun (nextLeaves w) calls (out ++ v ∷ [])
+  finds-none :
+      {w : Writer} {calls : List Call} {out : List ℕ} → WriterRun w calls out → taken bitRoom (w .pending) ≡ Nothing →
+      WriterRun (nextLeaves w) calls out
+
+-- the reader that the run ends in, the bits that were pushed, and the characters that were taken out, each in order
+pub data ReaderRun : Reader → List ℕ → List ℕ → Type 0 where
+  start : ReaderRun freshReader [] []
+  feeds :
+      {r : Reader} {bits out : List ℕ} → ReaderRun r bits out → (b : ℕ) → bitSaid r b ≡ accepted tt →
+      ReaderRun (bitLeaves r b) (bits ++ b ∷ []) out
+  takes :
+      {r : Reader} {bits out : List ℕ} → ReaderRun r bits out → (v : ℕ) → taken charRoom (r .chars) ≡ One v →
+      ReaderRun (charLeaves r) bits (out ++ v ∷ [])
+  finds-none :
+      {r : Reader} {bits out : List ℕ} → ReaderRun r bits out → taken charRoom (r .chars) ≡ Nothing →
+      ReaderRun (charLeaves r) bits out
+
+-- bytes below 128
+pub data Text : List ℕ → Type 0 where
+  none : Text []
+  more : {b : ℕ} {bs : List ℕ} → b < 128 → Text bs → Text (b ∷ bs)
+
+-- the bytes of a text, one call each, and one closing
+abbrev pub written : List ℕ → ℕ → List Call
+written text n = map byte text ++ closing n ∷ []

@@ -1,0 +1,6 @@
+-- Table: a rule of a table by one test. Search: one step of looking a word up. Sound: words that begin and end with 1 and hold no 00.
+-- Facts: what holds of Martinez's table.
+pub mod Table
+pub mod Search
+pub mod Sound
+pub mod Facts
