@@ -8,13 +8,12 @@ use native.Mathlib.Omega.{arith}
 use lib.ListN.{length, replicate}
 use Rattle.binary.specs.Digits.{digits, value}
 use Rattle.binary.proofs.Values.{Bits, length-digits, digits-bits, value-digits}
-use Rattle.queue.specs.Ring.{inside}
 use Rattle.varicode_words.specs.Word.{lengthOf, wordOf, bitsOf}
 use Rattle.varicode_words.proofs.Facts.{word-length, word-sized, word-rule, word-decodes}
 use Rattle.varicode_words.proofs.Sound.{Sound, one, after-one, after-gap}
-use Rattle.varicode.specs.Reader.{Reader, charRoom, nothingHeard, lettersFrom}
-use Rattle.varicode.specs.Writer.{Writer, opening, byte, closing, bitRoom, bitsPut, firstAfter, streamFrom}
-use Rattle.varicode.specs.Runs.{WriterRun, ReaderRun, Text, none, more, written}
+use Rattle.varicode.specs.Reader.{nothingHeard, lettersFrom}
+use Rattle.varicode.specs.Writer.{opening, byte, closing, bitsPut, firstAfter, streamFrom}
+use Rattle.varicode.specs.Runs.{Text, none, more, written, ReadsBack}
 use Rattle.varicode.proofs.Words.{Rest, done, zero-bit, one-bit, word-read, zeros-read, ones-read}
 use Rattle.varicode.proofs.WriterRuns.{writer-hands-out}
 use Rattle.varicode.proofs.ReaderRuns.{reader-hands-out}
@@ -62,12 +61,9 @@ pub stream-read :
 unfolding streamFrom bitsPut firstAfter
 stream-read k n {text} r = zeros-first k (streamFrom true (written text n)) ∙ text-read r n
 
--- Read-back: one even opening, bytes below 128, one closing, through a writer whose bits are all taken out, and those bits through a reader: what
--- is taken out of the reader, and what is still inside, is the text, letter for letter. Takings-out may come anywhere between.
-pub read-back :
-    {w : Writer} {r : Reader} {text sent got : List ℕ} (k n : ℕ) → Text text → WriterRun w (opening (2 * k) ∷ written text n) sent →
-    inside bitRoom (w .pending) ≡ [] → ReaderRun r sent got → got ++ inside charRoom (r .chars) ≡ text
-read-back {w} {r} {text} {sent} {got} k n t wrote all read =
+-- so that a notice reads back
+pub read-back : ReadsBack
+read-back w r text sent got k n t wrote all read =
     let stream : sent ≡ streamFrom true (opening (2 * k) ∷ written text n) =
     sym (append-nil sent) ∙ ap (λ (l : List ℕ). sent ++ l) (sym all) ∙ writer-hands-out wrote in
     reader-hands-out read ∙ ap (lettersFrom nothingHeard) stream ∙ stream-read k n t

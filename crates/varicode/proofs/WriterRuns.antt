@@ -1,5 +1,5 @@
 -- The writer hands out what was put in, in order, whatever accepted calls come between. Assumes nothing.
-use mathlib.Core.Bool.{Bool, true, false, cond}
+use mathlib.Core.Bool.{Bool, true, false}
 use mathlib.Core.List.{List, [], _∷_, _++_, append-assoc, append-nil}
 use mathlib.Core.Path.{_≡_, refl, sym, ap, ap₂, subst, _∙_}
 use Prim.Native.Nat.{ℕ, _+_, _≤_}
@@ -53,9 +53,8 @@ writer-puts w calls out c h said =
     let free = accepted-means 9 (ltb 256 (readAs 256 (w .pending) .count + length bits)) (accepted tt) said in
     let room : w .pending .count + length bits ≤ 256 =
     subst (λ (q : Ring). q .count + length bits ≤ 256) read (ltb-false 256 (readAs 256 (w .pending) .count + length bits) free) in
-    let same : putLeaves w c ≡ record { pending = putAll 256 (w .pending) bits; first = firstAfter (w .first) c } =
-    ap (λ (b : Bool). cond b w (record { pending = putAll 256 (readAs 256 (w .pending)) bits; first = firstAfter (w .first) c })) free
-    ∙ ap (λ (q : Ring). madeWriter (putAll 256 q bits) (firstAfter (w .first) c)) read in
+    let same : putLeaves w c ≡ madeWriter (putAll 256 (w .pending) bits) (firstAfter (w .first) c) =
+    rw free (ap (λ (q : Ring). madeWriter (putAll 256 q bits) (firstAfter (w .first) c)) read) in
     rw same
     (record {
       whole = put-all-whole (h .whole) bits room;

@@ -2,11 +2,12 @@
 -- Definitions only.
 use mathlib.Core.List.{List, [], _∷_, _++_, map}
 use mathlib.Core.Path.{_≡_}
-use Prim.Native.Nat.{ℕ, _<_}
+use Prim.Native.Nat.{ℕ, _*_, _<_}
+use Rattle.queue.specs.Ring.{inside}
 use Rattle.refusal.specs.Answer.{accepted}
 use Rattle.varicode.specs.declared.Taken.the-variants.{One, Nothing}
 use Rattle.varicode.specs.Take.{taken}
-use Rattle.varicode.specs.Writer.{Writer, Call, byte, closing, bitRoom, freshWriter, putSaid, putLeaves, nextLeaves}
+use Rattle.varicode.specs.Writer.{Writer, Call, opening, byte, closing, bitRoom, freshWriter, putSaid, putLeaves, nextLeaves}
 use Rattle.varicode.specs.Reader.{Reader, charRoom, freshReader, bitSaid, bitLeaves, charLeaves}
 
 -- the writer that the run ends in, the calls that put bits, and the bits that were taken out, each in order
@@ -43,3 +44,11 @@ pub data Text : List ℕ → Type 0 where
 -- the bytes of a text, one call each, and one closing
 abbrev pub written : List ℕ → ℕ → List Call
 written text n = map byte text ++ closing n ∷ []
+
+-- Read-back: one even opening, bytes below 128, one closing, through a fresh writer whose bits are all taken out, and those bits through a fresh
+-- reader: what is taken out of the reader, and what is still inside, is the text, letter for letter.
+abbrev pub ReadsBack : Type 0
+ReadsBack =
+    (w : Writer) (r : Reader) (text sent got : List ℕ) (k n : ℕ) → Text text →
+    WriterRun w (opening (2 * k) ∷ written text n) sent → inside bitRoom (w .pending) ≡ [] →
+    ReaderRun r sent got → got ++ inside charRoom (r .chars) ≡ text
