@@ -1,0 +1,2 @@
+-- Patterns: which bit patterns are a NaN's.
+pub mod Patterns

@@ -1,0 +1,2 @@
+-- Single: one f32: is it finite, and which number four bytes make.
+pub mod Single

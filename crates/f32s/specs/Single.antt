@@ -1,0 +1,14 @@
+-- One f32: is it finite, and the value of four bytes. Definitions only.
+use mathlib.Core.Bool.{Bool, true, false}
+use Prim.Native.Nat.{ℕ, _+_, _*_}
+use lib.Ieee.{Float, nan, inf, fin, binary32, ofBits}
+
+-- neither NaN nor infinite
+abbrev pub finite : Float → Bool
+finite nan = false
+finite (inf s) = false
+finite (fin s m e) = true
+
+-- four bytes, low first, by their bits; every NaN pattern is the one NaN
+abbrev pub ofBytes : (b0 b1 b2 b3 : ℕ) → Float
+ofBytes b0 b1 b2 b3 = ofBits binary32 (b0 + 256 * b1 + 65536 * b2 + 16777216 * b3)
