@@ -3,6 +3,10 @@ use mathlib.Core.Bool.{true}
 use mathlib.Core.List.{List, [], _∷_, map}
 use mathlib.Core.Path.{_≡_}
 use Prim.Native.Nat.{ℕ}
+use lib.Ieee.{Float, binary32, ofBits}
+use lib.ListN.{length}
+use Rattle.readings.specs.Decode.{word, score}
+use Rattle.readings.specs.Places.{zero32}
 use Rattle.trellis.specs.declared.ConvCode.{ConvCode}
 use Rattle.trellis.specs.Choice.{k5, k7, patternOf}
 use Rattle.trellis.specs.Codeword.{stepsOf, codeword}
@@ -10,11 +14,13 @@ use Rattle.trellis.specs.Keep.{codedLength}
 use Rattle.varicode.specs.Reader.{nothingHeard, lettersFrom}
 use Rattle.varicode.specs.Writer.{byte, streamFrom}
 
--- a line: the coded bits of an info word at a rate; the coded lengths of an info count at the five rates; the bits that a fresh writer puts for a
--- text; the characters that a fresh reader takes from bits
+-- a line: the coded bits of an info word at a rate; the coded lengths of an info count at the five rates; the word, and the score, that readings are
+-- decoded to; the bits that a fresh writer puts for a text; the characters that a fresh reader takes from bits
 pub data Line : Type 0 where
   coded : (code : ConvCode) (rate : ℕ) (info bits : List ℕ) → Line
   lengths : (code : ConvCode) (count : ℕ) (atRates : List ℕ) → Line
+  decodes : (code : ConvCode) (rate : ℕ) (heard : List Float) (bits : List ℕ) → Line
+  scores : (code : ConvCode) (rate count : ℕ) (heard : List Float) (is : Float) → Line
   writes : (text bits : List ℕ) → Line
   reads : (bits text : List ℕ) → Line
 
@@ -22,12 +28,21 @@ abbrev pub Holds : Line → Type 0
 Holds (coded code rate info bits) = codeword code (patternOf rate) info ≡ bits
 Holds (lengths code count atRates) =
     map (λ (rate : ℕ). codedLength (patternOf rate) (stepsOf code count)) (0 ∷ 1 ∷ 2 ∷ 3 ∷ 4 ∷ []) ≡ atRates
+Holds (decodes code rate heard bits) = word code (patternOf rate) heard (length bits) ≡ bits
+Holds (scores code rate count heard is) = score code (patternOf rate) heard count ≡ is
 Holds (writes text bits) = streamFrom true (map byte text) ≡ bits
 Holds (reads bits text) = lettersFrom nothingHeard bits ≡ text
 
 abbrev pub AllHold : List Line → Type 0
 AllHold [] = Unit
 AllHold (line ∷ lines) = Holds line × AllHold lines
+
+-- 1.0 and -1.0 by their bits
+abbrev one : Float
+one = ofBits binary32 0x3f80_0000
+
+abbrev minusOne : Float
+minusOne = ofBits binary32 0xbf80_0000
 
 -- letters by their bytes
 abbrev e : ℕ
@@ -46,6 +61,11 @@ sheet =
     ∷ coded k7 0 (1 ∷ []) (1 ∷ 1 ∷ 1 ∷ 0 ∷ 1 ∷ 1 ∷ 1 ∷ 1 ∷ 0 ∷ 0 ∷ 0 ∷ 1 ∷ 1 ∷ 1 ∷ [])
     ∷ lengths k7 10 (32 ∷ 24 ∷ 22 ∷ 20 ∷ 19 ∷ [])
     ∷ lengths k5 0 (8 ∷ 6 ∷ 6 ∷ 5 ∷ 5 ∷ [])
+    ∷ decodes k5 0 (minusOne ∷ []) (1 ∷ [])
+    ∷ scores k5 0 1 (minusOne ∷ []) one
+    ∷ decodes k5 0 (minusOne ∷ one ∷ []) (0 ∷ [])
+    ∷ decodes k5 0 [] (0 ∷ 0 ∷ 0 ∷ [])
+    ∷ scores k5 0 3 [] zero32
     ∷ writes (h ∷ i ∷ []) (1 ∷ 0 ∷ 1 ∷ 0 ∷ 1 ∷ 1 ∷ 0 ∷ 0 ∷ 1 ∷ 1 ∷ 0 ∷ 1 ∷ [])
     ∷ reads (1 ∷ 1 ∷ 0 ∷ 0 ∷ []) (e ∷ [])
     ∷ reads (0 ∷ 1 ∷ 1 ∷ 0 ∷ 0 ∷ []) []

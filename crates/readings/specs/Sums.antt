@@ -1,0 +1,43 @@
+-- Correlations and metrics in f32, each operation rounded once. Definitions only.
+use mathlib.Core.Bool.{Bool, cond, not}
+use mathlib.Core.List.{List, _∷_}
+use Prim.Native.Nat.{ℕ, _-_, _^_}
+use lib.Dec.{eqb}
+use lib.Ieee.{Float, binary32, ofBits, add, sub, neg, lt, le}
+use lib.ListN.{replicate}
+use Rattle.best_path.specs.Metric.{Metric}
+use Rattle.trellis.specs.declared.ConvCode.{ConvCode}
+use Rattle.trellis.specs.Keep.{Keep}
+use Rattle.trellis.specs.State.{window, parityOf}
+use Rattle.readings.specs.Places.{zero32, valueOf, place0, place1}
+
+-- the mark of a state that is not reached: f32::MIN / 2
+abbrev pub mark : Float
+mark = ofBits binary32 0xfeff_ffff
+
+-- A state at or below the mark is skipped; only a strictly greater candidate replaces.
+abbrev pub largest : Metric Float Float
+largest =
+    record {
+      mark = mark;
+      reached = λ (m : Float). not (le m mark);
+      add = λ (m c : Float). add binary32 m c;
+      better = λ (x y : Float). lt y x;
+    }
+
+-- a+b, a-b, (-a)+b, (-a)-b for the coded pairs 00, 01, 10, 11
+unfoldable pub correlation : Float → Float → ℕ → ℕ → Float
+correlation a b c0 c1 =
+    cond (eqb c0 0) (cond (eqb c1 0) (add binary32 a b) (sub binary32 a b))
+    (cond (eqb c1 0) (add binary32 (neg a) b) (sub binary32 (neg a) b))
+
+-- what the branch of step t from the state s on the input b brings
+unfoldable pub gain : ConvCode → Keep → List Float → ℕ → ℕ → ℕ → Float
+unfolding correlation place0 place1 parityOf
+gain code p readings t s b =
+    correlation (valueOf (place0 p readings t)) (valueOf (place1 p readings t)) (parityOf (code .g0) (window code s b))
+    (parityOf (code .g1) (window code s b))
+
+-- State 0 starts at 0.0; the others are unreachable.
+abbrev pub started : ConvCode → List Float
+started code = zero32 ∷ replicate (2 ^ code .width - 1) mark
