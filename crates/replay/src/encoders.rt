@@ -6,6 +6,7 @@ use crate::fields::compared;
 use crate::fields::count;
 use crate::fields::fill;
 use crate::fields::first;
+use crate::fields::low;
 use crate::fields::number;
 use crate::fields::rest;
 use crate::fields::untouch;
@@ -134,9 +135,4 @@ pub fn length_case(fields: &[u8]) -> Verdict {
     };
     let answer = encoder::punctured_coded_len_with(head.code, info as usize, head.rate);
     compared(count_number(answer), head.answer, &[], &[])
-}
-
-// A number of two digits as a byte: nothing is lost.
-fn low(n: u64) -> u8 {
-    (n % 256) as u8
 }

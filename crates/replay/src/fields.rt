@@ -100,6 +100,11 @@ pub fn number(field: &[u8], width: usize) -> Value
     Value::Is(value)
 }
 
+// A number of two digits as a byte: nothing is lost.
+pub fn low(n: u64) -> u8 {
+    (n % 256) as u8
+}
+
 // How many bytes a field spells, if it spells any: two digits make a byte, and `-` says none.
 pub fn count(field: &[u8]) -> usize {
     field.len() / 2
@@ -140,7 +145,7 @@ pub fn untouch(out: &mut [u8])
 }
 
 // Whether the field is the `-` that stands for no bytes.
-fn is_none(field: &[u8]) -> bool
+pub fn is_none(field: &[u8]) -> bool
     ensures { λ r. ⌜ (r ≡ true → now (field .entry) ≡ 45 ∷ []) ⌝ }
 {
     if field.len() == 1 {

@@ -10,6 +10,8 @@ ghost use Rattle.replay.specs.Count.{countedOf, more};
 
 mod encoders;
 mod fields;
+mod queues;
+mod words;
 
 use fields::Verdict;
 use fields::find;
@@ -68,6 +70,10 @@ fn verdict_of(line: &[u8], given: &mut [u8], wanted: &mut [u8], out: &mut [u8]) 
         b'e' => encoders::punctured_case(fields, given, wanted, out),
         b'p' => encoders::plain_case(fields, given, wanted, out),
         b'l' => encoders::length_case(fields),
+        b'v' => words::word_case(fields),
+        b'd' => words::lookup_case(fields, wanted),
+        b'w' => queues::writer_case(fields),
+        b'r' => queues::reader_case(fields),
         _ => Verdict::Malformed,
     }
 }

@@ -1,9 +1,12 @@
-//! Runs the proved doors and the oracle side by side, one module for each area. A line for each group says what
-//! was compared and how many cases, and `same` or the first case that differs; the last line counts the groups.
+//! Runs the proved doors, and the program `replay` for what has no door, side by side with the oracle, one module for
+//! each area. A line for each group says what was compared and how many cases, and `same` or the first case that
+//! differs; the last line counts the groups.
 
 mod encoder;
 mod groups;
 mod lent;
+mod replay;
+mod varicode;
 
 use expected::Random;
 use groups::Groups;
@@ -15,6 +18,8 @@ const SEED: u64 = 0x4879_6F6C_6D75_7265;
 fn main() -> ExitCode {
     println!("compare: random inputs from seed {SEED:#x}");
     let mut groups = Groups::default();
-    encoder::run(&mut groups, &mut Random::new(SEED));
+    let random = &mut Random::new(SEED);
+    encoder::run(&mut groups, random);
+    varicode::run(&mut groups, random);
     groups.finish()
 }

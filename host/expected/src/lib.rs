@@ -3,6 +3,7 @@
 
 pub mod encoder;
 mod random;
+pub mod varicode;
 
 pub use random::Random;
 

@@ -1,7 +1,7 @@
 //! The encoders' and the coded length's part of the list.
 
-use crate::line::{bytes, lent, number};
 use expected::{CODES, INFO_LIMIT, RATES, Random, encoder};
+use list::line::{bytes, lent, number};
 
 /// Every word up to this many bits is listed.
 const ALL_WORDS: usize = 4;

@@ -1,0 +1,4 @@
+//! What is on the stored list, one module for each area.
+
+pub mod encoder;
+pub mod varicode;
