@@ -1,3 +1,4 @@
--- Visiting: the visiting order comes to the form by new state. Survivors: what later parts need of a step.
+-- Visiting: the visiting order comes to the form by new state. Survivors: what later parts need of a step. Metrics: what every metric is.
 pub mod Visiting
 pub mod Survivors
+pub mod Metrics
