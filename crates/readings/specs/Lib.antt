@@ -1,4 +1,6 @@
--- Places: what each place of the trellis reads. Sums: correlations and metrics in f32. Decode: what the decoder answers and leaves.
+-- Places: what each place of the trellis reads. Used: which reading is refused. Sums: correlations and metrics in f32. Decode: what the decoder
+-- answers and leaves.
 pub mod Places
+pub mod Used
 pub mod Sums
 pub mod Decode
