@@ -1,14 +1,14 @@
 -- What holds of every code and keep pattern that a number selects: so much the laws over any of them ask. Assumes nothing.
 use mathlib.Core.Path.{_≡_, refl, subst}
-use Prim.Native.Nat.{ℕ, zero, suc, _*_, _≤_, _<_}
+use Prim.Native.Nat.{ℕ, zero, suc, _*_, _%_, _^_, _≤_, _<_}
 use native.Mathlib.Nat.{div-one, mod-one}
 use native.Mathlib.Omega.{arith}
-use lib.Dec.{T, ltb, leb, lit<, lit≤}
+use lib.Dec.{T, eqb, ltb, leb, eqb→eq, lit<, lit≤}
 use lib.ListN.{length}
 use Rattle.trellis.specs.declared.ConvCode.{ConvCode}
 use Rattle.trellis.specs.Keep.{Keep, Pattern, onesOf, codedLength}
 use Rattle.trellis.specs.Choice.{k5, codeOf, half, patternOf, heldOf, keepOf}
-use Rattle.trellis.specs.Post.{Narrow, Rows}
+use Rattle.trellis.specs.Post.{Narrow, Ends, Rows}
 use Rattle.trellis.proofs.Columns.{rows-pattern}
 
 -- a number that is not 1 selects K5
@@ -36,6 +36,20 @@ unfolding codeOf
 code-narrow zero = narrow-of (codeOf 0) tt tt
 code-narrow (suc zero) = narrow-of (codeOf 1) tt tt
 code-narrow (suc (suc n)) = narrow-of (codeOf 0) tt tt
+
+-- a tap word of which both end bits are set, by computation
+abbrev reaches : ConvCode → ℕ → Type 0
+reaches code taps = T (eqb (taps % 2) 1) × T (leb (2 ^ code .width) taps) × T (ltb taps (2 * 2 ^ code .width))
+
+ends-of : (code : ConvCode) → reaches code (code .g0) → reaches code (code .g1) → Ends code
+ends-of code (a, b, c) (d, e, f) =
+    record { low0 = eqb→eq (code .g0 % 2) 1 a; low1 = eqb→eq (code .g1 % 2) 1 d; top0 = lit≤ b; top1 = lit≤ e; within0 = lit< c; within1 = lit< f }
+
+pub code-ends : (n : ℕ) → Ends (codeOf n)
+unfolding codeOf
+code-ends zero = ends-of (codeOf 0) (tt, tt, tt) (tt, tt, tt)
+code-ends (suc zero) = ends-of (codeOf 1) (tt, tt, tt) (tt, tt, tt)
+code-ends (suc (suc n)) = ends-of (codeOf 0) (tt, tt, tt) (tt, tt, tt)
 
 -- a keep pattern that the code's form of it holds
 pub record Held (p : Keep) : Type 0 where

@@ -1,6 +1,6 @@
 -- What the functions on one step ask and ensure, part by part. Definitions only.
 use mathlib.Core.Path.{_≡_}
-use Prim.Native.Nat.{ℕ, _^_, _≤_, _<_}
+use Prim.Native.Nat.{ℕ, _*_, _%_, _^_, _≤_, _<_}
 use lib.ListN.{length}
 use Rattle.trellis.specs.declared.ConvCode.{ConvCode}
 use Rattle.trellis.specs.declared.KeepPattern.{KeepPattern}
@@ -21,6 +21,15 @@ pub record Taken (code : ConvCode) (s b : ℕ) : Type 0 where
 pub record Branched (code : ConvCode) (s b : ℕ) (r : Pair) : Type 0 where
   pub first : r .c0 ≡ parityOf (code .g0) (window code s b)
   pub second : r .c1 ≡ parityOf (code .g1) (window code s b)
+
+-- tap words that reach from the register's oldest cell to the input, and no further: each has its lowest bit and its top bit set
+pub record Ends (code : ConvCode) : Type 0 where
+  pub low0 : code .g0 % 2 ≡ 1
+  pub low1 : code .g1 % 2 ≡ 1
+  pub top0 : 2 ^ code .width ≤ code .g0
+  pub top1 : 2 ^ code .width ≤ code .g1
+  pub within0 : code .g0 < 2 * 2 ^ code .width
+  pub within1 : code .g1 < 2 * 2 ^ code .width
 
 -- a keep pattern as the code holds it: at least one column counts, and each row has those that count
 pub record Rows (m : KeepPattern) : Type 0 where
