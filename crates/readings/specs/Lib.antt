@@ -1,6 +1,7 @@
--- Places: what each place of the trellis reads. Used: which reading is refused. Sums: correlations and metrics in f32. Decode: what the decoder
--- answers and leaves.
+-- Places: what each place of the trellis reads. Used: which reading is refused. Sums: correlations and metrics in f32. Post: what the functions on one
+-- step ensure. Decode: what the decoder answers and leaves.
 pub mod Places
 pub mod Used
 pub mod Sums
+pub mod Post
 pub mod Decode

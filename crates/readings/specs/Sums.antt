@@ -31,12 +31,15 @@ correlation a b c0 c1 =
     cond (eqb c0 0) (cond (eqb c1 0) (add binary32 a b) (sub binary32 a b))
     (cond (eqb c1 0) (add binary32 (neg a) b) (sub binary32 (neg a) b))
 
--- what the branch of step t from the state s on the input b brings
+-- what the branch from the state s on the input i brings, where a step reads a and b
+unfoldable pub brings : ConvCode → Float → Float → ℕ → ℕ → Float
+unfolding correlation parityOf
+brings code a b s i = correlation a b (parityOf (code .g0) (window code s i)) (parityOf (code .g1) (window code s i))
+
+-- what the branches of step t bring
 unfoldable pub gain : ConvCode → Keep → List Float → ℕ → ℕ → ℕ → Float
-unfolding correlation place0 place1 parityOf
-gain code p readings t s b =
-    correlation (valueOf (place0 p readings t)) (valueOf (place1 p readings t)) (parityOf (code .g0) (window code s b))
-    (parityOf (code .g1) (window code s b))
+unfolding brings place0 place1
+gain code p readings t = brings code (valueOf (place0 p readings t)) (valueOf (place1 p readings t))
 
 -- State 0 starts at 0.0; the others are unreachable.
 abbrev pub started : ConvCode → List Float
