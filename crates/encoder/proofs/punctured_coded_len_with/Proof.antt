@@ -14,14 +14,14 @@ no-count-requires c κs = search needs
 
 returns : tie.Need-returns
 unfolding lengthSaid
-returns c = c .no-count .ensures ∙ rw (le-ltb _ _ (c .before .if1 .taken))
+returns c = c .no-count .ensures ∙ rw (le-ltb _ 2 (c .before .if1 .taken))
 
 no-count-requires-2 : tie.Need-no-count-requires-2
 no-count-requires-2 c κs = search needs
 
 returns-2 : tie.Need-returns-2
 unfolding lengthSaid
-returns-2 c = c .no-count2 .ensures ∙ rw (lt-ltb _ _ (c .before .before .if1 .left), le-ltb _ _ (c .before .if2 .taken))
+returns-2 c = c .no-count2 .ensures ∙ rw (lt-ltb _ 2 (c .before .before .if1 .left), le-ltb _ 5 (c .before .if2 .taken))
 
 no-count-requires-3 : tie.Need-no-count-requires-3
 no-count-requires-3 c κs = search needs
@@ -30,7 +30,7 @@ returns-3 : tie.Need-returns-3
 unfolding lengthSaid
 returns-3 c =
     c .no-count3 .ensures
-    ∙ rw (lt-ltb _ _ (c .before .before .before .if1 .left), lt-ltb _ _ (c .before .before .if2 .left), lt-ltb _ _ (c .before .if3 .taken))
+    ∙ rw (lt-ltb _ 2 (c .before .before .before .if1 .left), lt-ltb _ 5 (c .before .before .if2 .left), lt-ltb 4096 _ (c .before .if3 .taken))
 
 conv-code-requires : tie.Need-conv-code-requires
 conv-code-requires c κs = search needs
@@ -49,7 +49,7 @@ returns-4 : tie.Need-returns-4
 unfolding lengthSaid
 returns-4 c =
     let tests = c .before .before .before .before in
-    rw (lt-ltb _ _ (tests .before .before .if1 .left), lt-ltb _ _ (tests .before .if2 .left), le-ltb _ _ (tests .if3 .left))
+    rw (lt-ltb _ 2 (tests .before .before .if1 .left), lt-ltb _ 5 (tests .before .if2 .left), le-ltb 4096 _ (tests .if3 .left))
     (ap accepted (c .coded-len .ensures ∙ length-held _ _ (c .before .before .matrix .ensures) _ ∙ length-chosen _ _ _ (c .before .before .before .conv-code .ensures) _))
 
 pub punctured-coded-len-with-spec : {M : Type 1} → statement M
