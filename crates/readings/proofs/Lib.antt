@@ -1,4 +1,13 @@
--- Metrics: no metric is a NaN, so the score has bits. Examined: the first bad reading. Sides: one branch, and a butterfly's correlations.
+-- Metrics: no metric is a NaN, so the score has bits. Examined: the first bad reading. Sides: one branch, and a butterfly's correlations. Turn: one turn
+-- of a step's loop.
 pub mod Metrics
 pub mod Examined
 pub mod Sides
+pub mod Turn
+pub mod Even
+pub mod Reading
+pub mod Steps
+pub mod Back
+pub mod Rows
+pub mod Selected
+pub mod Answers

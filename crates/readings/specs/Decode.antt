@@ -30,7 +30,7 @@ module _ (code : ConvCode) (p : Keep) (readings : List Float) where
   score info = getD (mets (stepsOf code info)) 0 mark
 
   -- the survivor numbers of t steps, row by row
-  unfoldable pub rows : ℕ → List ℕ
+  unfoldable pub filledRows : ℕ → List ℕ
   unfolding froms
-  rows zero = []
-  rows (suc t) = rows t ++ froms t
+  filledRows zero = []
+  filledRows (suc t) = filledRows t ++ froms t

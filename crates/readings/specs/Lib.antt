@@ -5,3 +5,4 @@ pub mod Used
 pub mod Sums
 pub mod Post
 pub mod Decode
+pub mod Said

@@ -1,0 +1,144 @@
+-- The refusals in their order, and which readings are used. Assumes nothing.
+use mathlib.Core.List.{List, [], _∷_, _++_}
+use mathlib.Core.Path.{_≡_, refl, sym, ap, _∙_}
+use Prim.Native.Nat.{ℕ, zero, suc, _+_, _*_, _^_, _≤_, _<_}
+use native.Mathlib.Decide.{decLt}
+use native.Mathlib.Omega.{arith}
+use borrow.Author.Tests.{lt-ltb, le-ltb}
+use lib.Ieee.{Float}
+use lib.ListN.{length, getD, take, drop, length-append}
+use lib.Seq.{take-all, length-take-le}
+use Rattle.encoder.specs.Encode.{lengthOf}
+use Rattle.best_path.specs.Run.{traced, inputInto}
+use Rattle.refusal.specs.Answer.{Said, accepted, refused}
+use Rattle.refusal.specs.Lent.{over, leaves}
+use Rattle.trellis.specs.declared.ConvCode.{ConvCode}
+use Rattle.trellis.specs.Choice.{codeOf, patternOf}
+use Rattle.trellis.specs.Codeword.{stepsOf}
+use Rattle.trellis.specs.Keep.{Keep}
+use Rattle.trellis.proofs.Chosen.{code-narrow, rate-pattern}
+use Rattle.trellis.proofs.Kept.{coded-le}
+use Rattle.readings.specs.Used.{firstBad}
+use Rattle.readings.specs.Decode.{froms, word, score, filledRows}
+use Rattle.readings.specs.Post.{UsedOf}
+use Rattle.readings.specs.Said.{survivorsOf, decodeSaid}
+use Rattle.readings.specs.Sums.{largest}
+use Rattle.readings.proofs.Steps.{length-rows}
+
+-- ---- which readings are used
+
+pub length-few : (code rate info : ℕ) → info ≤ 4096 → lengthOf code rate info ≤ 65536
+length-few code rate info h =
+    omega (arith, coded-le (patternOf rate) (rate-pattern rate) (stepsOf (codeOf code) info), code-narrow code .narrow)
+
+pub uses-all : (need count coded : ℕ) → coded ≡ need → need ≤ 65536 → count < coded → UsedOf need count count
+uses-all need count coded e few h = record { short = λ g. refl; enough = λ g. absurd (omega (arith, e, h, g)); few = omega (arith, e, h, few) }
+
+pub uses-needed : (need count coded : ℕ) → coded ≡ need → need ≤ 65536 → coded ≤ count → UsedOf need count coded
+uses-needed need count coded e few h = record { short = λ g. absurd (omega (arith, e, h, g)); enough = λ g. e; few = omega (arith, e, few) }
+
+module _ (need used : ℕ) (readings : List Float) (is : UsedOf need (length readings) used) where
+  pub used-within : used ≤ length readings
+  used-within = elim (decLt (length readings) need) [ yes h ↦ omega (arith, is .short h) | no h ↦ omega (arith, is .enough (omega arith), h) ]
+
+  pub used-taken : take used readings ≡ take need readings
+  used-taken =
+      elim (decLt (length readings) need) [
+        | yes h ↦ take-all used readings (omega (arith, is .short h)) ∙ sym (take-all need readings (omega arith))
+        | no h ↦ ap (λ (n : ℕ). take n readings) (is .enough (omega arith))
+      ]
+
+  pub used-counted : length (take need readings) ≡ used
+  used-counted = ap (λ (l : List Float). length l) (sym used-taken) ∙ length-take-le used readings used-within
+
+-- ---- the refusals
+
+module _ (code rate info : ℕ) (readings : List Float) (room scratch : ℕ) where
+  abbrev said : Said Float
+  said = decodeSaid code rate info readings room scratch
+
+  pub no-code : 2 ≤ code → said ≡ refused 1 0
+  unfolding decodeSaid
+  no-code h = rw (le-ltb code 2 h)
+
+  module _ (a : code < 2) where
+    pub no-rate : 5 ≤ rate → said ≡ refused 2 0
+    unfolding decodeSaid
+    no-rate h = rw (lt-ltb code 2 a, le-ltb rate 5 h)
+
+    module _ (b : rate < 5) where
+      pub too-many : 4096 < info → said ≡ refused 3 0
+      unfolding decodeSaid
+      too-many h = rw (lt-ltb code 2 a, lt-ltb rate 5 b, lt-ltb 4096 info h)
+
+      module _ (c : info ≤ 4096) where
+        pub no-room : room < info → said ≡ refused 4 0
+        unfolding decodeSaid
+        no-room h = rw (lt-ltb code 2 a, lt-ltb rate 5 b, le-ltb 4096 info c, lt-ltb room info h)
+
+        module _ (d : info ≤ room) where
+          pub no-scratch : scratch < survivorsOf code info → said ≡ refused 5 0
+          unfolding decodeSaid
+          no-scratch h = rw (lt-ltb code 2 a, lt-ltb rate 5 b, le-ltb 4096 info c, le-ltb room info d, lt-ltb scratch (survivorsOf code info) h)
+
+          module _ (e : survivorsOf code info ≤ scratch) (used bad : ℕ) (is : UsedOf (lengthOf code rate info) (length readings) used) (of-bad : bad ≡ firstBad (take used readings)) where
+            first-is : firstBad (take (lengthOf code rate info) readings) ≡ bad
+            first-is = sym (of-bad ∙ ap firstBad (used-taken (lengthOf code rate info) used readings is))
+
+            pub bad-reading : bad < used → said ≡ refused 6 bad
+            unfolding decodeSaid
+            bad-reading h =
+                rw (
+                  lt-ltb code 2 a,
+                  lt-ltb rate 5 b,
+                  le-ltb 4096 info c,
+                  le-ltb room info d,
+                  le-ltb scratch (survivorsOf code info) e,
+                  first-is,
+                  used-counted (lengthOf code rate info) used readings is,
+                  lt-ltb bad used h,
+                )
+
+            pub good-readings : used ≤ bad → said ≡ accepted (score (codeOf code) (patternOf rate) readings info)
+            unfolding decodeSaid
+            good-readings h =
+                rw (
+                  lt-ltb code 2 a,
+                  lt-ltb rate 5 b,
+                  le-ltb 4096 info c,
+                  le-ltb room info d,
+                  le-ltb scratch (survivorsOf code info) e,
+                  first-is,
+                  used-counted (lengthOf code rate info) used readings is,
+                  le-ltb bad used h,
+                )
+
+-- ---- what is left
+
+length-traced : (code : ConvCode) (froms : ℕ → List ℕ) (t s : ℕ) → length (traced largest code froms t s) ≡ t
+unfolding traced
+length-traced code froms zero s = refl
+length-traced code froms (suc t) s =
+    length-append (traced largest code froms t (getD (froms t) s 0)) (inputInto largest code s ∷ [])
+    ∙ omega (arith, length-traced code froms t (getD (froms t) s 0))
+
+length-word : (code : ConvCode) (p : Keep) (readings : List Float) (info : ℕ) → length (word code p readings info) ≡ info
+unfolding word
+length-word code p readings info =
+    let all = length-traced code (λ (t : ℕ). froms code p readings t) (stepsOf code info) 0 in
+    length-take-le info _ (omega (arith, all))
+
+module _ (said : Said Float) (score : Float) (accepts : said ≡ accepted score) (code : ConvCode) (p : Keep) (readings : List Float) (info : ℕ) where
+  pub leaves-word : (new old : List ℕ) → new ≡ word code p readings info ++ drop info old → new ≡ leaves said (word code p readings info) old
+  unfolding over
+  leaves-word new old e =
+      e ∙ ap (λ (n : ℕ). word code p readings info ++ drop n old) (sym (length-word code p readings info))
+      ∙ ap (λ (a : Said Float). leaves a (word code p readings info) old) (sym accepts)
+
+  pub leaves-rows :
+      0 < code .width → (new old : List ℕ) → new ≡ filledRows code p readings (stepsOf code info) ++ drop (stepsOf code info * 2 ^ code .width) old →
+      new ≡ leaves said (filledRows code p readings (stepsOf code info)) old
+  unfolding over
+  leaves-rows some new old e =
+      e ∙ ap (λ (n : ℕ). filledRows code p readings (stepsOf code info) ++ drop n old) (sym (length-rows code some p readings (stepsOf code info)))
+      ∙ ap (λ (a : Said Float). leaves a (filledRows code p readings (stepsOf code info)) old) (sym accepts)

@@ -1,0 +1,82 @@
+-- What the code and rate numbers select is what a decoding asks. Assumes nothing.
+use mathlib.Core.List.{List, _++_}
+use mathlib.Core.Path.{_≡_, refl, sym, ap, ap₂, subst, _∙_}
+use Prim.Native.Nat.{ℕ, zero, suc, _+_, _-_, _*_, _^_, _≤_, _<_}
+use native.Mathlib.Nat.{mul-le-mul-right}
+use native.Mathlib.Omega.{arith}
+use lib.Dec.{lit≤}
+use lib.Ieee.{Float}
+use lib.ListN.{drop}
+use Rattle.encoder.proofs.Selected.{chosen-narrow, chosen-rows, keep-chosen}
+use Rattle.trellis.specs.declared.ConvCode.{ConvCode}
+use Rattle.trellis.specs.declared.KeepPattern.{KeepPattern}
+use Rattle.trellis.specs.Choice.{codeOf, patternOf, heldOf, keepOf}
+use Rattle.trellis.specs.Codeword.{stepsOf}
+use Rattle.trellis.specs.Keep.{Keep}
+use Rattle.trellis.specs.Post.{Rows}
+use Rattle.trellis.proofs.Chosen.{code-narrow, code-ends}
+use Rattle.trellis.proofs.States.{states-two-halves}
+use Rattle.readings.specs.Decode.{word, score, filledRows}
+use Rattle.readings.specs.Post.{Halved}
+use Rattle.readings.specs.Said.{survivorsOf}
+
+pub code-few : (n : ℕ) → 2 ^ (codeOf n .width - 1) ≤ 32
+unfolding codeOf
+code-few zero = lit≤ tt
+code-few (suc zero) = lit≤ tt
+code-few (suc (suc n)) = lit≤ tt
+
+module _ (code half : ℕ) (of-half : half ≡ 2 ^ (codeOf code .width - 1)) where
+  pub code-halved : Halved (codeOf code) half
+  code-halved =
+      record {
+        held = code-narrow code;
+        few = omega (arith, of-half, code-few code);
+        halved = of-half;
+        ends = code-ends code;
+      }
+
+  pub code-states : 2 * half ≡ 2 ^ codeOf code .width
+  code-states = omega (arith, of-half, states-two-halves (codeOf code) (code-narrow code .some))
+
+-- ---- as the code holds it
+
+module _ (code info : ℕ) (chosen : ConvCode) (half : ℕ) (e : chosen ≡ codeOf code) (g : half ≡ 2 ^ (chosen .width - 1)) where
+  of-half : half ≡ 2 ^ (codeOf code .width - 1)
+  of-half = g ∙ ap (λ (c : ConvCode). 2 ^ (c .width - 1)) e
+
+  pub same-rows : stepsOf chosen info * (2 * half) ≡ survivorsOf code info
+  same-rows = ap₂ (λ (c : ConvCode) (n : ℕ). stepsOf c info * n) e (code-states code half of-half)
+
+  pub half-few : half ≤ 32
+  half-few = omega (arith, of-half, code-few code)
+
+  pub rows-few : info ≤ 4096 → stepsOf chosen info * (2 * half) ≤ 263168
+  rows-few h =
+      let narrow = chosen-narrow chosen code e .narrow in
+      let steps : stepsOf chosen info ≤ 4112 = omega (arith, narrow, h) in
+      omega (arith, mul-le-mul-right (2 * half) steps, half-few)
+
+  module _ (rate : ℕ) (keep : KeepPattern) (f : keep ≡ heldOf (patternOf rate)) where
+    pub decode-ready :
+        (room scratch : ℕ) → info ≤ 4096 → info ≤ room → survivorsOf code info ≤ scratch →
+        Halved chosen half × (Rows keep × ((info ≤ 4096) × ((info ≤ room) × (stepsOf chosen info * (2 * half) ≤ scratch))))
+    decode-ready room scratch short fits rows =
+        (subst (λ (c : ConvCode). Halved c half) (sym e) (code-halved code half of-half), (chosen-rows keep rate f, (short, (fits, omega (arith, same-rows, rows)))))
+
+    same-keep : keepOf keep ≡ patternOf rate
+    same-keep = keep-chosen keep rate f
+
+    pub score-chosen : (readings : List Float) → score chosen (keepOf keep) readings info ≡ score (codeOf code) (patternOf rate) readings info
+    score-chosen readings = ap₂ (λ (c : ConvCode) (p : Keep). score c p readings info) e same-keep
+
+    pub word-left : (readings : List Float) (old : List ℕ) → word chosen (keepOf keep) readings info ++ drop info old ≡ word (codeOf code) (patternOf rate) readings info ++ drop info old
+    word-left readings old = ap₂ (λ (c : ConvCode) (p : Keep). word c p readings info ++ drop info old) e same-keep
+
+    pub rows-left :
+        (readings : List Float) (old : List ℕ) →
+        filledRows chosen (keepOf keep) readings (stepsOf chosen info) ++ drop (stepsOf chosen info * (2 * half)) old
+        ≡ filledRows (codeOf code) (patternOf rate) readings (stepsOf (codeOf code) info) ++ drop (survivorsOf code info) old
+    rows-left readings old =
+        ap₂ (λ (c : ConvCode) (p : Keep). filledRows c p readings (stepsOf c info) ++ drop (stepsOf chosen info * (2 * half)) old) e same-keep
+        ∙ ap (λ (n : ℕ). filledRows (codeOf code) (patternOf rate) readings (stepsOf (codeOf code) info) ++ drop n old) same-rows

@@ -1,0 +1,163 @@
+-- Steps one after the other: the metrics that the code holds agree with those after t steps, and the rows of survivors grow. Assumes nothing.
+use mathlib.Core.Bool.{Bool, true, false, cond}
+use mathlib.Core.List.{List, [], _∷_, _++_, map, append-assoc, append-nil}
+use mathlib.Core.Path.{_≡_, refl, sym, ap, ap₂, subst, _∙_}
+use Prim.Native.Nat.{ℕ, zero, suc, _+_, _-_, _*_, _%_, _^_, _≤_, _<_}
+use native.Mathlib.Nat.{suc-mul, mod-lt, mul-le-mul-right}
+use native.Mathlib.Numerals.{add-one}
+use native.Mathlib.Omega.{arith}
+use lib.Dec.{eqb}
+use lib.Ieee.{Float, nan}
+use lib.ListN.{length, getD, set, take, drop, replicate, getD-replicate, length-append, length-drop, drop-of-length-le, List·getD-append}
+use lib.Seq.{getD-set-other, take-all, take-at, drop-at, drop-drop}
+use Rattle.best_path.specs.Step.{Cell, step}
+use Rattle.best_path.specs.Run.{stepFrom, metsAfter, survivors}
+use Rattle.best_path.proofs.Survivors.{step-same, length-mets, length-survivors}
+use Rattle.trellis.specs.declared.ConvCode.{ConvCode}
+use Rattle.trellis.specs.declared.KeepPattern.{KeepPattern}
+use Rattle.trellis.specs.Choice.{keepOf}
+use Rattle.trellis.specs.Keep.{Keep, keeps0, keeps1, codedLength}
+use Rattle.trellis.specs.Post.{Rows}
+use Rattle.trellis.proofs.Columns.{rows-pattern, keeps0-column, keeps1-column}
+use Rattle.trellis.proofs.Kept.{one, coded-suc, coded-le}
+use Rattle.readings.specs.Places.{zero32, valueOf, filled, place0, place1}
+use Rattle.readings.specs.Sums.{mark, largest, brings, gain, started}
+use Rattle.readings.specs.Decode.{mets, froms, filledRows}
+use Rattle.readings.specs.Post.{stepped, newMets, newFroms}
+
+-- the row of a step that is still to come fits
+pub row-fits : (t steps width room : ℕ) → t < steps → steps * width ≤ room → t * width + width ≤ room
+row-fits t steps width room h fits = omega (arith, mul-le-mul-right width h, suc-mul t width)
+
+-- within a list the default is not seen
+any-default : {A : Type 0} (list : List A) (i : ℕ) (d e : A) → i < length list → getD list i d ≡ getD list i e
+any-default [] i d e h = absurd (omega (arith, h))
+any-default (x ∷ xs) zero d e h = refl
+any-default (x ∷ xs) (suc i) d e h = any-default xs i d e (omega arith)
+
+-- the metrics as the code holds them, in an array that may be longer
+abbrev pub Agrees : ConvCode → Keep → List Float → List Float → ℕ → Type 0
+Agrees code p readings pm t = (s : ℕ) → s < 2 ^ code .width → getD pm s nan ≡ getD (mets code p readings t) s mark
+
+module _ (code : ConvCode) (some : 0 < code .width) (p : Keep) (readings : List Float) where
+  abbrev states : ℕ
+  states = 2 ^ code .width
+
+  pub agrees-start : states ≤ 64 → Agrees code p readings (set (replicate 64 mark) 0 zero32) 0
+  unfolding mets metsAfter
+  agrees-start few zero h = refl
+  agrees-start few (suc s) h =
+      getD-set-other (replicate 64 mark) 0 (suc s) zero32 nan (λ e. omega arith) ∙ getD-replicate 64 (suc s) mark nan (omega (arith, h, few))
+      ∙ sym (getD-replicate (states - 1) s mark mark (omega (arith, h)))
+
+  module _ (pm : List Float) (a b : Float) (t : ℕ) (agrees : Agrees code p readings pm t) (of-a : a ≡ valueOf (place0 p readings t)) (of-b : b ≡ valueOf (place1 p readings t)) where
+    stepped-gain : stepped code pm a b ≡ step largest code (λ (s : ℕ). getD (mets code p readings t) s mark) (gain code p readings t)
+    unfolding gain
+    stepped-gain =
+        step-same largest code (λ (s : ℕ). getD pm s nan) (λ (s : ℕ). getD (mets code p readings t) s mark) (brings code a b) agrees
+        ∙ ap₂ (λ (x y : Float). step largest code (λ (s : ℕ). getD (mets code p readings t) s mark) (brings code x y)) of-a of-b
+
+    new-mets : newMets code pm a b ≡ mets code p readings (suc t)
+    unfolding mets metsAfter stepFrom
+    new-mets = ap (map (λ (c : Cell Float). c .met)) stepped-gain
+
+    pub new-froms : newFroms code pm a b ≡ froms code p readings t
+    unfolding froms survivors stepFrom mets
+    new-froms = ap (map (λ (c : Cell Float). c .from)) stepped-gain
+
+    pub agrees-next : (next rest : List Float) → next ≡ newMets code pm a b ++ rest → Agrees code p readings next (t + 1)
+    unfolding mets
+    agrees-next next rest e s h =
+        let sized = length-mets largest code some (gain code p readings) (started code) t in
+        let within : s < length (mets code p readings (suc t)) = omega (arith, sized, h) in
+        ap (λ (l : List Float). getD l s nan) (e ∙ ap (λ (l : List Float). l ++ rest) new-mets)
+        ∙ List·getD-append (mets code p readings (suc t)) rest nan s within
+        ∙ any-default (mets code p readings (suc t)) s nan mark within
+        ∙ ap (λ (n : ℕ). getD (mets code p readings n) s mark) (sym (add-one t))
+
+  pub length-rows : (t : ℕ) → length (filledRows code p readings t) ≡ t * states
+  unfolding filledRows froms
+  length-rows zero = omega arith
+  length-rows (suc t) =
+      length-append (filledRows code p readings t) (froms code p readings t)
+      ∙ omega (arith, length-rows t, length-survivors largest code some (gain code p readings) (started code) t, suc-mul t states)
+
+  pub rows-start : (width : ℕ) (old : List ℕ) → old ≡ filledRows code p readings 0 ++ drop (0 * width) old
+  unfolding filledRows
+  rows-start width old = let none : 0 ≡ 0 * width = omega arith in ap (λ (n : ℕ). drop n old) none
+
+  -- a row behind the rows: the part of the list from there on begins with it
+  rows-next :
+      (width : ℕ) → width ≡ states → (old list part : List ℕ) (at t : ℕ) → list ≡ filledRows code p readings t ++ drop (t * width) old →
+      at ≡ t * width → part ≡ froms code p readings t ++ drop states (drop at list) →
+      take at list ++ part ≡ filledRows code p readings (t + 1) ++ drop ((t + 1) * width) old
+  unfolding filledRows
+  rows-next width same old list part at t e f g =
+      let sized : length (filledRows code p readings t) ≡ at = length-rows t ∙ ap (λ (n : ℕ). t * n) (sym same) ∙ sym f in
+      let front : take at list ≡ filledRows code p readings t = ap (take at) e ∙ take-at (filledRows code p readings t) (drop (t * width) old) at sized in
+      let behind : drop at list ≡ drop (t * width) old = ap (drop at) e ∙ drop-at (filledRows code p readings t) (drop (t * width) old) at sized in
+      let further : t * width + width ≡ (t + 1) * width = sym (ap (λ (n : ℕ). n * width) (add-one t) ∙ suc-mul t width) in
+      let rest : drop states (drop at list) ≡ drop ((t + 1) * width) old =
+      ap₂ (λ (n : ℕ) (l : List ℕ). drop n l) (sym same) behind ∙ drop-drop width (t * width) old ∙ ap (λ (n : ℕ). drop n old) further in
+      ap₂ (λ (x y : List ℕ). x ++ y) front (g ∙ ap (λ (l : List ℕ). froms code p readings t ++ l) rest)
+      ∙ sym (append-assoc (filledRows code p readings t) (froms code p readings t) (drop ((t + 1) * width) old))
+      ∙ ap (λ (n : ℕ). filledRows code p readings n ++ drop ((t + 1) * width) old) (sym (add-one t))
+
+  -- the same as a call leaves it, which was lent the list from there on
+  pub rows-put :
+      (width : ℕ) → width ≡ states → (old list part : List ℕ) (at t : ℕ) → list ≡ filledRows code p readings t ++ drop (t * width) old →
+      at ≡ t * width → part ≡ froms code p readings t ++ drop states (take (length list - at) (drop at list)) →
+      take at list ++ (part ++ drop (length list - at) (drop at list)) ≡ filledRows code p readings (t + 1) ++ drop ((t + 1) * width) old
+  rows-put width same old list part at t e f g =
+      let all : length (drop at list) ≤ length list - at = omega (arith, length-drop at list) in
+      let none : part ++ drop (length list - at) (drop at list) ≡ part =
+      ap (λ (l : List ℕ). part ++ l) (drop-of-length-le (drop at list) all) ∙ append-nil part in
+      let lent : part ≡ froms code p readings t ++ drop states (drop at list) =
+      g ∙ ap (λ (l : List ℕ). froms code p readings t ++ drop states l) (take-all (length list - at) (drop at list) all) in
+      ap (λ (l : List ℕ). take at list ++ l) none ∙ rows-next width same old list part at t e f lent
+
+-- ---- which readings a step reads
+
+pub one-at-most : (b : Bool) → cond b 1 0 ≤ 1
+one-at-most true = omega arith
+one-at-most false = omega arith
+
+pub none-coded : (m : KeepPattern) → Rows m → codedLength (keepOf m) 0 ≡ 0
+none-coded m rows = omega (arith, coded-le (keepOf m) (rows-pattern m rows) 0)
+
+module _
+    (m : KeepPattern) (rows : Rows m) (readings : List Float) (t column at : ℕ)
+    (of-column : column ≡ t % m .period) (of-at : at ≡ codedLength (keepOf m) t) where
+  abbrev p : Keep
+  p = keepOf m
+
+  kept0 : eqb (getD (m .row0) column 0) 1 ≡ keeps0 p t
+  kept0 = ap (λ (j : ℕ). eqb (getD (m .row0) j 0) 1) of-column ∙ sym (keeps0-column m rows t)
+
+  kept1 : eqb (getD (m .row1) column 0) 1 ≡ keeps1 p t
+  kept1 = ap (λ (j : ℕ). eqb (getD (m .row1) j 0) 1) of-column ∙ sym (keeps1-column m rows t)
+
+  pub column-below : column < m .period
+  column-below = omega (arith, of-column, mod-lt t (rows .some))
+
+  pub column-within : column < 7
+  column-within = omega (arith, column-below, rows .seven)
+
+  pub reads-few : (steps : ℕ) → t < steps → steps ≤ 65536 → at < 131072
+  reads-few steps h few = omega (arith, of-at, h, few, coded-le p (rows-pattern m rows) t)
+
+  pub reads-place0 : (a : Float) → a ≡ valueOf (filled (eqb (getD (m .row0) column 0) 1) readings at) → a ≡ valueOf (place0 p readings t)
+  unfolding place0
+  reads-place0 a e = e ∙ ap₂ (λ (k : Bool) (n : ℕ). valueOf (filled k readings n)) kept0 of-at
+
+  module _ (then : ℕ) (of-then : then ≡ at + cond (eqb (getD (m .row0) column 0) 1) 1 0) where
+    pub reads-place1 : (b : Float) → b ≡ valueOf (filled (eqb (getD (m .row1) column 0) 1) readings then) → b ≡ valueOf (place1 p readings t)
+    unfolding place1
+    reads-place1 b e =
+        e ∙ ap₂ (λ (k : Bool) (n : ℕ). valueOf (filled k readings n)) kept1 (of-then ∙ ap₂ (λ (n : ℕ) (k : Bool). n + cond k 1 0) of-at kept0)
+
+    pub counts-both : (end : ℕ) → end ≡ then + cond (eqb (getD (m .row1) column 0) 1) 1 0 → end ≡ codedLength p (t + 1)
+    counts-both end e =
+        let first : cond (eqb (getD (m .row0) column 0) 1) 1 0 ≡ one (keeps0 p t) = ap one kept0 in
+        let second : cond (eqb (getD (m .row1) column 0) 1) 1 0 ≡ one (keeps1 p t) = ap one kept1 in
+        omega (arith, e, of-then, of-at, first, second, coded-suc p (rows-pattern m rows) t) ∙ ap (codedLength p) (sym (add-one t))

@@ -1,0 +1,30 @@
+-- What `viterbi_decode_soft_with` answers, for every input. Definitions only.
+use mathlib.Core.Bool.{cond}
+use mathlib.Core.List.{List}
+use Prim.Native.Nat.{ℕ, _*_, _^_}
+use lib.Dec.{ltb}
+use lib.Ieee.{Float}
+use lib.ListN.{length, take}
+use Rattle.encoder.specs.Encode.{lengthOf, checked}
+use Rattle.refusal.specs.Answer.{Said, accepted, refused, refuseWhen}
+use Rattle.trellis.specs.Choice.{codeOf, patternOf}
+use Rattle.trellis.specs.Codeword.{stepsOf}
+use Rattle.readings.specs.Used.{firstBad}
+use Rattle.readings.specs.Decode.{score}
+
+-- how many survivors there are: steps × states
+abbrev pub survivorsOf : (code info : ℕ) → ℕ
+survivorsOf code info = stepsOf (codeOf code) info * 2 ^ codeOf code .width
+
+-- refusal 6 at the first reading that is NaN or infinite
+abbrev pub examined : {A : Type 0} → List Float → Said A → Said A
+examined used rest = cond (ltb (firstBad used) (length used)) (refused 6 (firstBad used)) rest
+
+-- surplus readings are neither used nor examined
+unfoldable pub decodeSaid : (code rate info : ℕ) → List Float → (room scratch : ℕ) → Said Float
+unfolding firstBad score
+decodeSaid code rate info readings room scratch =
+    checked code rate info
+    (refuseWhen (ltb room info) 4
+    (refuseWhen (ltb scratch (survivorsOf code info)) 5
+    (examined (take (lengthOf code rate info) readings) (accepted (score (codeOf code) (patternOf rate) readings info)))))
