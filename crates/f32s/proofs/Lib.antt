@@ -1,2 +1,3 @@
 -- Patterns: which bit patterns are a NaN's.
 pub mod Patterns
+pub mod AllBytes

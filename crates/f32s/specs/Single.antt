@@ -1,5 +1,6 @@
--- One f32: is it finite, and the value of four bytes. Definitions only.
+-- One f32: is it finite, and the value of four bytes; and of many. Definitions only.
 use mathlib.Core.Bool.{Bool, true, false}
+use mathlib.Core.List.{List, [], _∷_}
 use Prim.Native.Nat.{ℕ, _+_, _*_}
 use lib.Ieee.{Float, nan, inf, fin, binary32, ofBits}
 
@@ -12,3 +13,11 @@ finite (fin s m e) = true
 -- four bytes, low first, by their bits; every NaN pattern is the one NaN
 abbrev pub ofBytes : (b0 b1 b2 b3 : ℕ) → Float
 ofBytes b0 b1 b2 b3 = ofBits binary32 (b0 + 256 * b1 + 65536 * b2 + 16777216 * b3)
+
+-- four bytes for each; a last piece under four bytes is surplus
+unfoldable pub allOfBytes : List ℕ → List Float
+allOfBytes [] = []
+allOfBytes (b0 ∷ []) = []
+allOfBytes (b0 ∷ b1 ∷ []) = []
+allOfBytes (b0 ∷ b1 ∷ b2 ∷ []) = []
+allOfBytes (b0 ∷ b1 ∷ b2 ∷ b3 ∷ rest) = ofBytes b0 b1 b2 b3 ∷ allOfBytes rest

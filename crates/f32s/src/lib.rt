@@ -1,6 +1,10 @@
-// Tests on one f32, and an f32 from its four bytes.
+// Tests on one f32, an f32 from its four bytes, and its bits.
+ghost use mathlib.Core.List.{_++_};
 ghost use mathlib.Core.Path.{_≡_};
-ghost use Rattle.f32s.specs.Single.{finite, ofBytes};
+ghost use Prim.Native.Nat.{min};
+ghost use lib.Ieee.{binary32, toBits};
+ghost use lib.ListN.{length, take, drop};
+ghost use Rattle.f32s.specs.Single.{finite, ofBytes, allOfBytes};
 
 // Neither NaN nor infinite: a NaN is below nothing.
 pub fn is_finite(x: f32) -> bool
@@ -19,4 +23,31 @@ pub fn from_bytes(b0: u8, b1: u8, b2: u8, b3: u8) -> f32
         return 0.0 / 0.0;
     }
     f32::from_bits(n)
+}
+
+// The f32s of bytes, four bytes each: as many as there are and there is room for. They go to the front of
+// values; answers how many.
+pub fn from_all_bytes(bytes: &[u8], values: &mut [f32]) -> usize
+    ensures count { λ r. ⌜ r ≡ length (take (length (now (values .entry))) (allOfBytes (now (bytes .entry)))) ⌝ }
+    ensures filled { λ r. ⌜ now (values .exit) ≡ take (length (now (values .entry))) (allOfBytes (now (bytes .entry))) ++ drop r (now (values .entry)) ⌝ }
+{
+    let count = lesser(values.len(), bytes.len() / 4);
+    for i in 0..count {
+        let at = 4 * i;
+        values[i] = from_bytes(bytes[at], bytes[at + 1], bytes[at + 2], bytes[at + 3]);
+    }
+    count
+}
+
+fn lesser(m: usize, n: usize) -> usize
+    ensures { λ r. ⌜ r ≡ min m n ⌝ }
+{
+    if m < n { m } else { n }
+}
+
+// The bits of an f32; a NaN's are always the same.
+pub fn bits_of(x: f32) -> u32
+    ensures { λ r. ⌜ r ≡ toBits binary32 x ⌝ }
+{
+    if x == x { f32::to_bits(x) } else { 0x7fc0_0000 }
 }

@@ -12,29 +12,31 @@ use Rattle.encoder.specs.Encode.{lengthOf}
 use Rattle.best_path.specs.Run.{traced, inputInto}
 use Rattle.refusal.specs.Answer.{Said, accepted, refused}
 use Rattle.refusal.specs.Lent.{over, leaves}
+use Rattle.refusal.specs.Limits.{most}
 use Rattle.trellis.specs.declared.ConvCode.{ConvCode}
 use Rattle.trellis.specs.Choice.{codeOf, patternOf}
 use Rattle.trellis.specs.Codeword.{stepsOf}
 use Rattle.trellis.specs.Keep.{Keep}
-use Rattle.trellis.proofs.Chosen.{code-narrow, rate-pattern}
+use Rattle.trellis.proofs.Chosen.{rate-pattern}
 use Rattle.trellis.proofs.Kept.{coded-le}
 use Rattle.readings.specs.Used.{firstBad}
 use Rattle.readings.specs.Decode.{froms, word, score, filledRows}
 use Rattle.readings.specs.Post.{UsedOf}
-use Rattle.readings.specs.Said.{survivorsOf, decodeSaid}
+use Rattle.readings.specs.Said.{mostReadings, survivorsOf, decodeSaid}
 use Rattle.readings.specs.Sums.{largest}
 use Rattle.readings.proofs.Steps.{length-rows}
+use Rattle.readings.proofs.Selected.{code-width}
 
 -- ---- which readings are used
 
-pub length-few : (code rate info : ℕ) → info ≤ 4096 → lengthOf code rate info ≤ 65536
+pub length-few : (code rate info : ℕ) → info ≤ most → lengthOf code rate info ≤ mostReadings
 length-few code rate info h =
-    omega (arith, coded-le (patternOf rate) (rate-pattern rate) (stepsOf (codeOf code) info), code-narrow code .narrow)
+    omega (arith, coded-le (patternOf rate) (rate-pattern rate) (stepsOf (codeOf code) info), code-width code)
 
-pub uses-all : (need count coded : ℕ) → coded ≡ need → need ≤ 65536 → count < coded → UsedOf need count count
+pub uses-all : (need count coded : ℕ) → coded ≡ need → need ≤ mostReadings → count < coded → UsedOf need count count
 uses-all need count coded e few h = record { short = λ g. refl; enough = λ g. absurd (omega (arith, e, h, g)); few = omega (arith, e, h, few) }
 
-pub uses-needed : (need count coded : ℕ) → coded ≡ need → need ≤ 65536 → coded ≤ count → UsedOf need count coded
+pub uses-needed : (need count coded : ℕ) → coded ≡ need → need ≤ mostReadings → coded ≤ count → UsedOf need count coded
 uses-needed need count coded e few h = record { short = λ g. absurd (omega (arith, e, h, g)); enough = λ g. e; few = omega (arith, e, few) }
 
 module _ (need used : ℕ) (readings : List Float) (is : UsedOf need (length readings) used) where

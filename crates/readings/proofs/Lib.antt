@@ -1,5 +1,5 @@
 -- Metrics: no metric is a NaN, so the score has bits. Examined: the first bad reading. Sides: one branch, and a butterfly's correlations. Turn: one turn
--- of a step's loop.
+-- of a step's loop. Surplus: readings behind those that are used have no part in the answer.
 pub mod Metrics
 pub mod Examined
 pub mod Sides
@@ -11,3 +11,4 @@ pub mod Back
 pub mod Rows
 pub mod Selected
 pub mod Answers
+pub mod Surplus

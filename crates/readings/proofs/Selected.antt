@@ -7,6 +7,7 @@ use native.Mathlib.Omega.{arith}
 use lib.Dec.{lit≤}
 use lib.Ieee.{Float}
 use lib.ListN.{drop}
+use lib.Pow.{pow-mono}
 use Rattle.encoder.proofs.Selected.{chosen-narrow, chosen-rows, keep-chosen}
 use Rattle.trellis.specs.declared.ConvCode.{ConvCode}
 use Rattle.trellis.specs.declared.KeepPattern.{KeepPattern}
@@ -20,11 +21,14 @@ use Rattle.readings.specs.Decode.{word, score, filledRows}
 use Rattle.readings.specs.Post.{Halved}
 use Rattle.readings.specs.Said.{survivorsOf}
 
-pub code-few : (n : ℕ) → 2 ^ (codeOf n .width - 1) ≤ 32
+pub code-width : (n : ℕ) → codeOf n .width ≤ 6
 unfolding codeOf
-code-few zero = lit≤ tt
-code-few (suc zero) = lit≤ tt
-code-few (suc (suc n)) = lit≤ tt
+code-width zero = lit≤ tt
+code-width (suc zero) = lit≤ tt
+code-width (suc (suc n)) = lit≤ tt
+
+pub code-few : (n : ℕ) → 2 ^ (codeOf n .width - 1) ≤ 32
+code-few n = pow-mono {j = 5} (omega (arith, code-width n))
 
 module _ (code half : ℕ) (of-half : half ≡ 2 ^ (codeOf code .width - 1)) where
   pub code-halved : Halved (codeOf code) half

@@ -12,6 +12,10 @@ use Rattle.trellis.specs.Codeword.{stepsOf}
 use Rattle.readings.specs.Used.{firstBad}
 use Rattle.readings.specs.Decode.{score}
 
+-- the most readings that a decoding uses: two for each of the 4,096 + 6 steps
+abbrev pub mostReadings : ℕ
+mostReadings = 8204
+
 -- how many survivors there are: steps × states
 abbrev pub survivorsOf : (code info : ℕ) → ℕ
 survivorsOf code info = stepsOf (codeOf code) info * 2 ^ codeOf code .width

@@ -6,6 +6,7 @@ ghost use lib.ListN.{length, getD, take, drop};
 ghost use lib.Dec.{eqb, ltb};
 ghost use mathlib.Core.Bool.{cond};
 ghost use lib.Ieee.{neg};
+ghost use Rattle.f32s.specs.Single.{allOfBytes};
 ghost use Rattle.best_path.specs.Run.{traced};
 ghost use Rattle.best_path.specs.Step.{relaxed};
 ghost use Rattle.readings.specs.Places.{valueOf, filled};
@@ -342,6 +343,27 @@ pub fn viterbi_decode_soft_with(
     }
     let score = decode_at(code, rate, readings, info, out, scratch);
     Decoded::Word(score)
+}
+
+// The most readings that a decoding uses: two for each of the 4,096 + 6 steps.
+pub const MOST_READINGS: usize = 8204;
+
+// The same of readings as four bytes each, low first; a last piece under four bytes is surplus.
+pub fn viterbi_decode_bytes(
+    code: u8,
+    bytes: &[u8],
+    info: usize,
+    rate: u8,
+    out: &mut [u8],
+    scratch: &mut [u8],
+) -> Decoded
+    ensures answer { λ r. ⌜ wordSaid r ≡ decodeSaid code rate info (allOfBytes (now (bytes .entry))) (length (now (out .entry))) (length (now (scratch .entry))) ⌝ }
+    ensures output { λ r. ⌜ now (out .exit) ≡ leaves (decodeSaid code rate info (allOfBytes (now (bytes .entry))) (length (now (out .entry))) (length (now (scratch .entry)))) (word (codeOf code) (patternOf rate) (allOfBytes (now (bytes .entry))) info) (now (out .entry)) ⌝ }
+    ensures survivors { λ r. ⌜ now (scratch .exit) ≡ leaves (decodeSaid code rate info (allOfBytes (now (bytes .entry))) (length (now (out .entry))) (length (now (scratch .entry)))) (filledRows (codeOf code) (patternOf rate) (allOfBytes (now (bytes .entry))) (stepsOf (codeOf code) info)) (now (scratch .entry)) ⌝ }
+{
+    let mut values = [0.0; MOST_READINGS];
+    let count = f32s::from_all_bytes(bytes, &mut values[..]);
+    viterbi_decode_soft_with(code, &values[..count], info, rate, out, scratch)
 }
 
 // How many survivors there are: steps times states.

@@ -1,7 +1,7 @@
 -- What document 01 says of an answer: the value of an accepted call, or the number and the place of a refusal. Definitions only.
 use mathlib.Core.Bool.{Bool, true, false}
 use Prim.Native.Nat.{ℕ, _+_, _*_, _^_}
-use lib.Ieee.{Float}
+use lib.Ieee.{Float, binary32, toBits}
 use Rattle.refusal.specs.declared.Counted.{Counted}
 use Rattle.refusal.specs.declared.Counted.the-variants as counted
 use Rattle.refusal.specs.declared.Decoded.{Decoded}
@@ -33,7 +33,12 @@ abbrev pub refuseWhen : {A : Type 0} → Bool → ℕ → Said A → Said A
 refuseWhen true number rest = refused number 0
 refuseWhen false number rest = rest
 
--- An answer as the one number that a door returns: the count, or on a refusal its number times 2^32 plus the place.
+-- a word's answer with its score's 32 bits
+abbrev pub scoreBits : Said Float → Said ℕ
+scoreBits (accepted score) = accepted (toBits binary32 score)
+scoreBits (refused number place) = refused number place
+
+-- An answer as the one number that a door returns: the count or the score's bits, or on a refusal its number times 2^32 plus the place.
 unfoldable pub doorNumber : Said ℕ → ℕ
 doorNumber (accepted n) = n
 doorNumber (refused number place) = number * 2 ^ 32 + place

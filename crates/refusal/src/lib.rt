@@ -1,6 +1,6 @@
 // What an entry answers: its value, or a refusal with document 01's number and a place.
 ghost use mathlib.Core.Path.{_≡_};
-ghost use Rattle.refusal.specs.Answer.{countSaid, doneSaid, refused, doorNumber};
+ghost use Rattle.refusal.specs.Answer.{countSaid, wordSaid, doneSaid, scoreBits, refused, doorNumber};
 
 // The most info bits or symbols that one call may bring.
 pub const MOST: usize = 4096;
@@ -45,12 +45,29 @@ pub fn not_done(number: u8) -> Put
     Put::Refused(Refusal { number, place: 0 })
 }
 
-// A count's answer as the one number that a door returns.
+// A refusal as the one number that a door returns.
+fn refused_number(r: Refusal) -> u64
+    ensures { λ n. ⌜ n ≡ doorNumber (refused (r .number) (r .place)) ⌝ }
+{
+    (r.number as u64) * 0x1_0000_0000 + (r.place as u64)
+}
+
+// A count's answer as that number.
 pub fn count_number(answer: Counted) -> u64
     ensures { λ r. ⌜ r ≡ doorNumber (countSaid answer) ⌝ }
 {
     match answer {
         Counted::Count(n) => n as u64,
-        Counted::Refused(r) => (r.number as u64) * 0x1_0000_0000 + (r.place as u64),
+        Counted::Refused(r) => refused_number(r),
+    }
+}
+
+// A word's answer as that number.
+pub fn word_number(answer: Decoded) -> u64
+    ensures { λ r. ⌜ r ≡ doorNumber (scoreBits (wordSaid answer)) ⌝ }
+{
+    match answer {
+        Decoded::Word(score) => f32s::bits_of(score) as u64,
+        Decoded::Refused(r) => refused_number(r),
     }
 }
