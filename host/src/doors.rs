@@ -1,7 +1,7 @@
 //! The doors themselves, with 01's numbers for code and rate, safe to call with any.
 //!
-//! Each returns the count, or on a refusal its number times 2^32 plus the place. An accepted call writes the
-//! first count bytes of `out` and no other; a refused one writes none.
+//! Each returns the count or the score's 32 bits, or on a refusal its number times 2^32 plus the place. An accepted
+//! call writes the front of what it was lent and nothing beyond; a refused one writes nothing.
 
 mod foreign {
     // A slice crosses as a pointer and then a length.
@@ -9,6 +9,17 @@ mod foreign {
         pub fn relay_conv_encode(bits: *const u8, bits_len: usize, out: *mut u8, out_len: usize) -> u64;
         pub fn relay_encode(code: u8, rate: u8, info: *const u8, info_len: usize, out: *mut u8, out_len: usize) -> u64;
         pub safe fn relay_coded_len(code: u8, rate: u8, info: usize) -> u64;
+        pub fn relay_decode(
+            code: u8,
+            rate: u8,
+            info: usize,
+            readings: *const u8,
+            readings_len: usize,
+            out: *mut u8,
+            out_len: usize,
+            scratch: *mut u8,
+            scratch_len: usize,
+        ) -> u64;
     }
 }
 
@@ -27,4 +38,24 @@ pub fn encode(code: u8, rate: u8, info: &[u8], out: &mut [u8]) -> u64 {
 /// How many coded bits `encode` gives for so many info bits. Refusals 1 to 3.
 pub fn coded_len(code: u8, rate: u8, info: usize) -> u64 {
     foreign::relay_coded_len(code, rate, info)
+}
+
+/// The block decoder of readings, which are four bytes each, low first; a last piece under four bytes is surplus.
+/// The word goes to the first `info` bytes of `out`, the survivor numbers to the first steps × states bytes of
+/// `scratch`. Refusals 1 to 6.
+pub fn decode(code: u8, rate: u8, info: usize, readings: &[u8], out: &mut [u8], scratch: &mut [u8]) -> u64 {
+    // SAFETY: as in `conv_encode`, for all three slices.
+    unsafe {
+        foreign::relay_decode(
+            code,
+            rate,
+            info,
+            readings.as_ptr(),
+            readings.len(),
+            out.as_mut_ptr(),
+            out.len(),
+            scratch.as_mut_ptr(),
+            scratch.len(),
+        )
+    }
 }

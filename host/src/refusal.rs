@@ -1,4 +1,4 @@
-//! A door's answer taken apart: a count, or a refusal's number and place.
+//! A door's answer taken apart: a count or a score, or a refusal's number and place.
 
 use std::error::Error;
 use std::fmt;
@@ -20,11 +20,21 @@ impl fmt::Display for Refusal {
 
 impl Error for Refusal {}
 
-/// Reads the answer of a door that counts: a refusal's number stands above the lowest 32 bits.
+/// Reads the answer of a door that counts.
 pub fn count(answer: u64) -> Result<usize, Refusal> {
+    accepted(answer).map(|low| low as usize)
+}
+
+/// Reads the answer of a door that gives a score by its bits.
+pub fn score(answer: u64) -> Result<f32, Refusal> {
+    accepted(answer).map(f32::from_bits)
+}
+
+/// The lowest 32 bits, unless a refusal's number stands above them.
+fn accepted(answer: u64) -> Result<u32, Refusal> {
     let (number, low) = ((answer >> 32) as u32, answer as u32);
     if number == 0 {
-        Ok(low as usize)
+        Ok(low)
     } else {
         Err(Refusal { number, place: low })
     }
@@ -38,6 +48,13 @@ mod tests {
     fn an_answer_below_two_to_the_32_is_a_count() {
         assert_eq!(count(0), Ok(0));
         assert_eq!(count(0xFFFF_FFFF), Ok(0xFFFF_FFFF));
+    }
+
+    #[test]
+    fn an_answer_below_two_to_the_32_is_a_score() {
+        assert_eq!(score(0x3F80_0000), Ok(1.0));
+        assert!(score(0x8000_0000).unwrap().is_sign_negative());
+        assert_eq!(score(1 << 32), Err(Refusal { number: 1, place: 0 }));
     }
 
     #[test]

@@ -1,7 +1,8 @@
--- Metrics: no metric is a NaN, so the score has bits. Examined: the first bad reading. Sides: one branch, and a butterfly's correlations. Turn: one turn
--- of a step's loop. Surplus: readings behind those that are used have no part in the answer.
+-- Metrics: no metric is a NaN, so the score has bits. Examined: the first bad reading. Sides: a butterfly's correlations. Turn: one turn of a
+-- step's loop. Surplus: readings behind those that are used have no part in the answer.
 pub mod Metrics
 pub mod Examined
+pub mod Candidates
 pub mod Sides
 pub mod Turn
 pub mod Even

@@ -71,16 +71,24 @@ module _ (code info : ℕ) (chosen : ConvCode) (half : ℕ) (e : chosen ≡ code
     same-keep : keepOf keep ≡ patternOf rate
     same-keep = keep-chosen keep rate f
 
-    pub score-chosen : (readings : List Float) → score chosen (keepOf keep) readings info ≡ score (codeOf code) (patternOf rate) readings info
-    score-chosen readings = ap₂ (λ (c : ConvCode) (p : Keep). score c p readings info) e same-keep
-
-    pub word-left : (readings : List Float) (old : List ℕ) → word chosen (keepOf keep) readings info ++ drop info old ≡ word (codeOf code) (patternOf rate) readings info ++ drop info old
-    word-left readings old = ap₂ (λ (c : ConvCode) (p : Keep). word c p readings info ++ drop info old) e same-keep
-
-    pub rows-left :
-        (readings : List Float) (old : List ℕ) →
-        filledRows chosen (keepOf keep) readings (stepsOf chosen info) ++ drop (stepsOf chosen info * (2 * half)) old
-        ≡ filledRows (codeOf code) (patternOf rate) readings (stepsOf (codeOf code) info) ++ drop (survivorsOf code info) old
-    rows-left readings old =
-        ap₂ (λ (c : ConvCode) (p : Keep). filledRows c p readings (stepsOf c info) ++ drop (stepsOf chosen info * (2 * half)) old) e same-keep
-        ∙ ap (λ (n : ℕ). filledRows (codeOf code) (patternOf rate) readings (stepsOf (codeOf code) info) ++ drop n old) same-rows
+    -- so what is decoded is what the numbers select
+    pub decoded-selected :
+        (readings : List Float) (old rows out scratch : List ℕ) (r : Float) →
+        (r ≡ score chosen (keepOf keep) readings info)
+        × (
+        (out ≡ word chosen (keepOf keep) readings info ++ drop info old)
+        × (scratch ≡ filledRows chosen (keepOf keep) readings (stepsOf chosen info) ++ drop (stepsOf chosen info * (2 * half)) rows)
+        )
+        → (r ≡ score (codeOf code) (patternOf rate) readings info)
+        × (
+        (out ≡ word (codeOf code) (patternOf rate) readings info ++ drop info old)
+        × (scratch ≡ filledRows (codeOf code) (patternOf rate) readings (stepsOf (codeOf code) info) ++ drop (survivorsOf code info) rows)
+        )
+    decoded-selected readings old rows out scratch r (s, (w, k)) = (
+      s ∙ ap₂ (λ (c : ConvCode) (p : Keep). score c p readings info) e same-keep,
+      (
+        w ∙ ap₂ (λ (c : ConvCode) (p : Keep). word c p readings info ++ drop info old) e same-keep,
+        k ∙ ap₂ (λ (c : ConvCode) (p : Keep). filledRows c p readings (stepsOf c info) ++ drop (stepsOf chosen info * (2 * half)) rows) e same-keep
+            ∙ ap (λ (n : ℕ). filledRows (codeOf code) (patternOf rate) readings (stepsOf (codeOf code) info) ++ drop n rows) same-rows,
+      ),
+    )

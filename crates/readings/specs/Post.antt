@@ -1,8 +1,9 @@
 -- What the functions on one step ask and ensure, part by part. Definitions only.
+use mathlib.Core.Bool.{cond}
 use mathlib.Core.List.{List, map}
 use mathlib.Core.Path.{_≡_}
 use Prim.Native.Nat.{ℕ, _+_, _-_, _*_, _^_, _≤_, _<_}
-use lib.Ieee.{Float, nan}
+use lib.Ieee.{Float, nan, lt}
 use lib.ListN.{length, getD, take, drop}
 use Rattle.best_path.specs.Step.{Cell, unreached, relaxed, step}
 use Rattle.trellis.specs.declared.ConvCode.{ConvCode}
@@ -15,6 +16,10 @@ use Rattle.readings.specs.Sums.{largest, brings}
 -- what is known of a new state, as the code holds it
 abbrev pub cellOf : Best → Cell Float
 cellOf z = record { met = z .met; from = z .from }
+
+-- a candidate x from the state s, against the best so far
+abbrev pub chosen : Cell Float → Float → ℕ → Cell Float
+chosen z x s = cond (lt (z .met) x) (record { met = x; from = s }) z
 
 -- The states s and s + 1, of metrics m0 and m1. On the input 0 their branches bring x and y, on the input 1 y and x.
 pub record Winged (m0 m1 : Float) (s : ℕ) (x y : Float) (r : Wing) : Type 0 where

@@ -5,10 +5,10 @@ ghost use mathlib.Core.List.{_++_};
 ghost use lib.ListN.{length, getD, take, drop};
 ghost use lib.Dec.{eqb, ltb};
 ghost use mathlib.Core.Bool.{cond};
-ghost use lib.Ieee.{neg};
+ghost use lib.Ieee.{nan, neg, lt, le};
 ghost use Rattle.f32s.specs.Single.{allOfBytes};
 ghost use Rattle.best_path.specs.Run.{traced};
-ghost use Rattle.best_path.specs.Step.{relaxed};
+ghost use Rattle.best_path.specs.Step.{unreached};
 ghost use Rattle.readings.specs.Places.{valueOf, filled};
 ghost use Rattle.readings.specs.Used.{firstBad};
 ghost use Rattle.encoder.specs.Encode.{lengthOf};
@@ -20,7 +20,7 @@ ghost use Rattle.readings.specs.Sums.{largest, mark};
 ghost use Rattle.readings.specs.Decode.{mets, word, score, filledRows};
 ghost use Rattle.readings.specs.Said.{survivorsOf, decodeSaid};
 ghost use Rattle.trellis.specs.Codeword.{stepsOf};
-ghost use Rattle.readings.specs.Post.{cellOf, Winged, Halved, Crossed, newMets, newFroms, rowOf, Traceable, UsedOf};
+ghost use Rattle.readings.specs.Post.{cellOf, chosen, Winged, Halved, Crossed, newMets, newFroms, rowOf, Traceable, UsedOf};
 use refusal::Decoded;
 use refusal::Refusal;
 use trellis::ConvCode;
@@ -49,17 +49,41 @@ pub struct Best {
     pub from: u8,
 }
 
-// A branch from the state s of metric m, against the best so far. The sum is made first and the tests
-// are joined by `&`, so that the loop of a step can be vectorised.
-fn relax(z: Best, m: f32, c: f32, s: u8) -> Best
-    ensures { λ r. ⌜ cellOf r ≡ relaxed largest (cellOf z) m c s ⌝ }
+// A state's metric, or a NaN where it was not reached: a sum with that is a NaN too, which is never the
+// larger one. So a branch needs no test of its own, and the loop of a step is vectorised well.
+fn standing(m: f32) -> f32
+    ensures { λ r. ⌜ r ≡ cond (le m mark) nan m ⌝ }
 {
-    let x = m + c;
-    let wins = !(m <= MARK) & (z.met < x);
-    if wins {
-        return Best { met: x, from: s };
+    if MARK < m { m } else { 0.0 / 0.0 }
+}
+
+// The second where it is larger.
+fn larger(z: f32, x: f32) -> f32
+    ensures { λ r. ⌜ r ≡ cond (lt z x) x z ⌝ }
+{
+    if z < x { x } else { z }
+}
+
+// The state s + 1 where the second is larger.
+fn from_larger(z: f32, x: f32, s: u8) -> u8
+    requires { ⌜ s < 255 ⌝ }
+    ensures { λ r. ⌜ r ≡ cond (lt z x) (s + 1) s ⌝ }
+{
+    if z < x { s + 1 } else { s }
+}
+
+// The best way into a state: the candidate x0 comes from the state s, x1 from s + 1.
+fn best_of(x0: f32, x1: f32, s: u8) -> Best
+    requires { ⌜ s < 255 ⌝ }
+    ensures { λ r. ⌜ cellOf r ≡ chosen (chosen (unreached largest) x0 s) x1 (s + 1) ⌝ }
+{
+    let z = larger(MARK, x0);
+    let met = larger(z, x1);
+    let from = from_larger(z, x1, s);
+    if MARK < met {
+        return Best { met, from };
     }
-    z
+    Best { met, from: 0 }
 }
 
 // What two states lead to: the new state on the input 0, and on the input 1.
@@ -74,12 +98,10 @@ fn butterfly(m0: f32, m1: f32, s: u8, x: f32, y: f32) -> Wing
     requires { ⌜ s < 255 ⌝ }
     ensures { λ r. ⌜ Winged m0 m1 s x y r ⌝ }
 {
-    let z = Best { met: MARK, from: 0 };
-    let t = s + 1;
-    let low0 = relax(z, m0, x, s);
-    let low = relax(low0, m1, y, t);
-    let high0 = relax(z, m0, y, s);
-    let high = relax(high0, m1, x, t);
+    let p0 = standing(m0);
+    let p1 = standing(m1);
+    let low = best_of(p0 + x, p1 + y, s);
+    let high = best_of(p0 + y, p1 + x, s);
     Wing { low, high }
 }
 
@@ -289,16 +311,8 @@ fn decode_at(
     ensures survivors { λ _. ⌜ now (scratch .exit) ≡ filledRows (codeOf code) (patternOf rate) (now (readings .entry)) (stepsOf (codeOf code) info) ++ drop (survivorsOf code info) (now (scratch .entry)) ⌝ }
 {
     let chosen = trellis::conv_code(code);
-    let half = half_of(chosen);
-    decode(
-        chosen,
-        half,
-        trellis::matrix(rate),
-        readings,
-        info,
-        out,
-        scratch,
-    )
+    let keep = trellis::matrix(rate);
+    decode(chosen, half_of(chosen), keep, readings, info, out, scratch)
 }
 
 // The refusal of a call whose answer is a word.

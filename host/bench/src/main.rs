@@ -1,6 +1,7 @@
 //! Times the proved doors against the oracle: one run, equal input, both optimised, one module for each area.
 
 mod clock;
+mod decoder;
 mod encoder;
 
 fn main() {
@@ -9,4 +10,5 @@ fn main() {
         clock::ROUNDS
     );
     encoder::run();
+    decoder::run();
 }

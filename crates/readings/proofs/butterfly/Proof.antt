@@ -1,34 +1,31 @@
 -- `readings::butterfly`: two branches for each of the two new states. Assumes nothing.
 use borrow.Author.Needs.{needs}
-use Rattle.best_path.specs.Step.{unreached}
-use Rattle.readings.specs.Sums.{largest}
-use Rattle.readings.proofs.Sides.{both}
+use Rattle.readings.proofs.Candidates.{both-relaxed}
 use Rattle.readings.proofs.butterfly.Statement.{statement}
 use Rattle.readings.proofs.butterfly.Tie as tie
 
-add-t : tie.Need-add-t
-add-t c = search needs
+standing-requires : tie.Need-standing-requires
+standing-requires c κs = search needs
 
-relax-requires : tie.Need-relax-requires
-relax-requires c κs = search needs
+standing-requires-2 : tie.Need-standing-requires-2
+standing-requires-2 c κs = search needs
 
-relax-requires-2 : tie.Need-relax-requires-2
-relax-requires-2 c κs = search needs
+best-of-requires : tie.Need-best-of-requires
+best-of-requires c κs = search needs
 
-relax-requires-3 : tie.Need-relax-requires-3
-relax-requires-3 c κs = search needs
-
-relax-requires-4 : tie.Need-relax-requires-4
-relax-requires-4 c κs = search needs
+best-of-requires-2 : tie.Need-best-of-requires-2
+best-of-requires-2 c κs = search needs
 
 returns : tie.Need-returns
 returns c =
+    let even = c .before .before .before .standing .ensures in
+    let odd = c .before .before .standing2 .ensures in
     record {
-      low = both (unreached largest) _ _ _ _ _ _ _ _ (c .before .before .before .relax .ensures) (c .before .before .relax2 .ensures);
-      high = both (unreached largest) _ _ _ _ _ _ _ _ (c .before .relax3 .ensures) (c .relax4 .ensures);
+      low = both-relaxed _ _ _ _ _ _ _ _ _ even odd (c .before .best-of .ensures);
+      high = both-relaxed _ _ _ _ _ _ _ _ _ even odd (c .best-of2 .ensures);
     }
 
 pub butterfly-spec : {M : Type 1} → statement M
 butterfly-spec =
     tie.close
-    (tie.spec add-t relax-requires relax-requires-2 relax-requires-3 relax-requires-4 returns)
+    (tie.spec standing-requires standing-requires-2 best-of-requires best-of-requires-2 returns)
