@@ -1,4 +1,6 @@
--- Patterns: which bit patterns are a NaN's. AllBytes: the f32s of many bytes. Ordered: `<` is a strict order.
+-- Patterns: which bit patterns are a NaN's. AllBytes: the f32s of many bytes. Ordered: `<` is a strict order. Wholes: sums and comparisons of floats
+-- that are whole numbers.
 pub mod Patterns
 pub mod AllBytes
 pub mod Ordered
+pub mod Wholes

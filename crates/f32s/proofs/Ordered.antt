@@ -1,4 +1,5 @@
--- The order of the f32s: `<` as IEEE 754 has it is a strict order over every value, NaN, infinities, both zeros and finite ones, and `≤` is its denial where no NaN stands. Assumes nothing.
+-- The order of the f32s: `<` as IEEE 754 has it is a strict order over every value, NaN, infinities, both zeros and finite ones, and `≤` is its denial
+-- where no NaN stands. Assumes nothing.
 use mathlib.Core.Bool.{Bool, true, false, not, _&&_, _||_, or-not-self}
 use mathlib.Core.Path.{_≡_, refl, sym, ap, _∙_}
 use Prim.Native.Nat.{ℕ, _+_, _*_, _<_}
@@ -20,14 +21,14 @@ below-trans true false true a b c h k = cc
 below-trans true true false a b c h k = lt-ltb 0 (a + c) (omega (arith, ltb-true))
 below-trans true true true a b c h k = lt-ltb c a (omega (arith, ltb-true))
 
-ltb-scale : (a b k : ℕ) → 0 < k → ltb (a * k) (b * k) ≡ ltb a b
+pub ltb-scale : (a b k : ℕ) → 0 < k → ltb (a * k) (b * k) ≡ ltb a b
 ltb-scale a b k K = go (ltb a b) refl
   where
     go : (t : Bool) → ltb a b ≡ t → ltb (a * k) (b * k) ≡ t
     go true e = lt-ltb (a * k) (b * k) (mul-lt-mul-of-pos-right (ltb-true a b e) K)
     go false e = le-ltb (a * k) (b * k) (mul-le-mul-right k (ltb-false a b e))
 
-below-scale : (s t : Bool) (a b k : ℕ) → 0 < k → below s (a * k) t (b * k) ≡ below s a t b
+pub below-scale : (s t : Bool) (a b k : ℕ) → 0 < k → below s (a * k) t (b * k) ≡ below s a t b
 below-scale false false a b k K = ltb-scale a b k K
 below-scale false true a b k K = refl
 below-scale true false a b k K = rw (zero-mul, add-mul) at (ltb-scale 0 (a + b) k K)
