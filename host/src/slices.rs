@@ -1,7 +1,10 @@
 //! Readings as a door takes them.
 
 // A door takes the low byte first, which is how these machines keep an f32.
-const _: () = assert!(cfg!(target_endian = "little"), "the doors are for machines with the low byte first");
+const _: () = assert!(
+    cfg!(target_endian = "little"),
+    "the doors are for machines with the low byte first"
+);
 
 /// The four bytes of each f32.
 pub fn bytes_of(values: &[f32]) -> &[u8] {

@@ -12,20 +12,20 @@ use crate::fields::rest;
 use crate::fields::untouch;
 use refusal::count_number;
 
-// What an `e` and an `l` line begin with.
-struct Head {
-    code: u8,
-    rate: u8,
-    answer: u64,
+// What a line about a code and a rate begins with.
+pub struct Head {
+    pub code: u8,
+    pub rate: u8,
+    pub answer: u64,
 }
 
-enum Begun {
+pub enum Begun {
     With(Head),
     Bad,
 }
 
 // `CC RR ANSWER`, the first three fields.
-fn head_of(fields: &[u8]) -> Begun {
+pub fn head_of(fields: &[u8]) -> Begun {
     let Value::Is(code) = number(first(fields), 2) else {
         return Begun::Bad;
     };

@@ -8,6 +8,7 @@ ghost use Prim.Native.Nat.{_+_, _-_, _≤_, _<_};
 ghost use lib.ListN.{length, take, drop};
 ghost use Rattle.replay.specs.Count.{countedOf, more};
 
+mod decoders;
 mod encoders;
 mod fields;
 mod queues;
@@ -70,6 +71,7 @@ fn verdict_of(line: &[u8], given: &mut [u8], wanted: &mut [u8], out: &mut [u8]) 
         b'e' => encoders::punctured_case(fields, given, wanted, out),
         b'p' => encoders::plain_case(fields, given, wanted, out),
         b'l' => encoders::length_case(fields),
+        b'b' => decoders::block_case(fields, given, wanted, out),
         b'v' => words::word_case(fields),
         b'd' => words::lookup_case(fields, wanted),
         b'w' => queues::writer_case(fields),

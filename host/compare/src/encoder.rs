@@ -3,7 +3,7 @@
 mod accepted;
 mod entry;
 mod lengths;
-mod refused;
+pub mod refused;
 
 use crate::groups::Groups;
 use entry::Entry;

@@ -2,6 +2,7 @@
 //! each area. A line for each group says what was compared and how many cases, and `same` or the first case that
 //! differs; the last line counts the groups.
 
+mod decoder;
 mod encoder;
 mod groups;
 mod lent;
@@ -20,6 +21,7 @@ fn main() -> ExitCode {
     let mut groups = Groups::default();
     let random = &mut Random::new(SEED);
     encoder::run(&mut groups, random);
+    decoder::run(&mut groups, random);
     varicode::run(&mut groups, random);
     groups.finish()
 }

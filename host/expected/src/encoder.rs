@@ -29,7 +29,7 @@ pub fn coded_len(code: u8, rate: u8, info: usize) -> u64 {
 }
 
 /// The oracle's code and rate, or the first of the refusals 1, 2 and 3 that is due.
-fn selected(code: u8, rate: u8, info: usize) -> Result<(ConvCode, PunctureRate), u64> {
+pub(crate) fn selected(code: u8, rate: u8, info: usize) -> Result<(ConvCode, PunctureRate), u64> {
     let code = match code {
         0 => ConvCode::K5,
         1 => ConvCode::DvbK7,

@@ -1,6 +1,7 @@
 //! What each door must answer and leave in its buffers. An accepted input's output is the oracle's; whether an
 //! input is accepted is decided here, from 01's table of refusal numbers, and from nothing of the proved code.
 
+pub mod decoder;
 pub mod encoder;
 mod random;
 pub mod varicode;

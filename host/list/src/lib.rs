@@ -1,4 +1,6 @@
-//! How the lines of a list are written: its fields, and the cases of Varicode with what is expected of them.
+//! How the lines of a list are written: its fields, and the cases of the decoder and of Varicode with what is expected
+//! of them.
 
+pub mod decoder;
 pub mod line;
 pub mod varicode;

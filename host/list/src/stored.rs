@@ -1,4 +1,5 @@
 //! What is on the stored list, one module for each area.
 
+pub mod decoder;
 pub mod encoder;
 pub mod varicode;

@@ -1,0 +1,91 @@
+// The case of the block decoder of readings.
+use crate::MOST;
+use crate::encoders::Begun;
+use crate::encoders::Head;
+use crate::encoders::head_of;
+use crate::fields::Value;
+use crate::fields::Verdict;
+use crate::fields::compared;
+use crate::fields::count;
+use crate::fields::fill;
+use crate::fields::first;
+use crate::fields::number;
+use crate::fields::rest;
+use crate::fields::untouch;
+use refusal::word_number;
+
+// `b CC RR ANSWER COUNT READINGS OUT SCRATCH`: code, rate, the answer, the info count, the bytes of the
+// readings, the whole output, the whole scratch.
+pub fn block_case(fields: &[u8], given: &mut [u8], wanted: &mut [u8], out: &mut [u8]) -> Verdict {
+    let Begun::With(head) = head_of(fields) else {
+        return Verdict::Malformed;
+    };
+    let counted = rest(rest(rest(fields)));
+    let Value::Is(info) = number(first(counted), 16) else {
+        return Verdict::Malformed;
+    };
+    let lists = rest(counted);
+    let n = count(first(lists));
+    let m = count(first(rest(lists)));
+    let k = count(rest(rest(lists)));
+    if n > given.len() || m > wanted.len() || m > out.len() || k > MOST {
+        return Verdict::Malformed;
+    }
+    let mut wanted_rows = [0u8; MOST];
+    let mut rows = [0u8; MOST];
+    block_lists(
+        head,
+        info as usize,
+        lists,
+        &mut given[0..n],
+        &mut wanted[0..m],
+        &mut out[0..m],
+        &mut wanted_rows[0..k],
+        &mut rows[0..k],
+    )
+}
+
+// The same once the room is just what the lists need.
+fn block_lists(
+    head: Head,
+    info: usize,
+    lists: &[u8],
+    readings: &mut [u8],
+    wanted: &mut [u8],
+    out: &mut [u8],
+    wanted_rows: &mut [u8],
+    rows: &mut [u8],
+) -> Verdict {
+    if fill_all(lists, readings, wanted, wanted_rows) {
+        block_run(head, info, readings, wanted, out, wanted_rows, rows)
+    } else {
+        Verdict::Malformed
+    }
+}
+
+// Fills each with what its list spells, and answers whether all of them do.
+fn fill_all(lists: &[u8], readings: &mut [u8], wanted: &mut [u8], wanted_rows: &mut [u8]) -> bool {
+    let first_good = fill(first(lists), readings);
+    let second_good = fill(first(rest(lists)), wanted);
+    let third_good = fill(rest(rest(lists)), wanted_rows);
+    first_good & second_good & third_good
+}
+
+// The call itself.
+fn block_run(
+    head: Head,
+    info: usize,
+    readings: &[u8],
+    wanted: &[u8],
+    out: &mut [u8],
+    wanted_rows: &[u8],
+    rows: &mut [u8],
+) -> Verdict {
+    untouch(out);
+    untouch(rows);
+    let answer = readings::viterbi_decode_bytes(head.code, readings, info, head.rate, out, rows);
+    if !check::same(rows, wanted_rows) {
+        return Verdict::Differs;
+    }
+    compared(word_number(answer), head.answer, out, wanted)
+}

@@ -1,0 +1,43 @@
+//! The block decoder of readings: which groups are compared.
+
+mod accepted;
+mod call;
+mod refused;
+
+use crate::groups::Groups;
+use expected::{CODES, RATES, Random};
+
+pub fn run(groups: &mut Groups, random: &mut Random) {
+    for (code, code_name) in CODES {
+        for (rate, rate_name) in RATES {
+            let name = format!("decode {code_name} {rate_name}");
+            groups.report(
+                &format!(
+                    "{name}, every list of up to {} of {:?}, info 0 to {}",
+                    accepted::ALL_LISTS,
+                    accepted::VALUES,
+                    accepted::ALL_INFO
+                ),
+                accepted::every_list(code, rate),
+            );
+            for kind in accepted::KINDS {
+                groups.report(
+                    &format!(
+                        "{name}, {} readings, none to surplus, info 0 to {} and {:?}",
+                        kind.name,
+                        accepted::LENGTHS,
+                        accepted::LONG
+                    ),
+                    accepted::lengths(code, rate, kind, random),
+                );
+            }
+            groups.report(&format!("{name}, noisy codewords"), accepted::noisy(code, rate, random));
+            groups.report(
+                &format!("{name}, a NaN or an infinity at each place, used and surplus"),
+                refused::bad_readings(code, rate, random),
+            );
+        }
+    }
+    groups.report("decode, every code and rate number", refused::every_number(random));
+    groups.report("decode, every set of the faults 1 to 6", refused::faults(random));
+}

@@ -1,0 +1,137 @@
+//! Readings that the decoder accepts.
+
+use super::call::{Call, bytes, scratch_len};
+use crate::groups::Outcome;
+use crate::lent::{Fill, filled};
+use expected::encoder::{coded_len, encode};
+use expected::{INFO_LIMIT, Random};
+
+/// Every list of these, up to so many, is tried with each of the smallest info counts; what is missing reads 0.
+pub const VALUES: [f32; 6] = [-2.0, -1.0, -0.0, 0.0, 1.0, 2.0];
+pub const ALL_LISTS: u32 = 5;
+pub const ALL_INFO: usize = 2;
+
+/// Every info count up to this is tried: past each pattern's period and each register's width several times.
+pub const LENGTHS: usize = 40;
+
+/// Longer ones, the last two that are accepted among them.
+pub const LONG: [usize; 3] = [500, INFO_LIMIT - 1, INFO_LIMIT];
+
+/// How readings are chosen.
+#[derive(Clone, Copy)]
+pub struct Kind {
+    pub name: &'static str,
+    reading: fn(&mut Random) -> f32,
+}
+
+pub const KINDS: [Kind; 4] = [
+    Kind {
+        name: "whole",
+        reading: |random| random.below(7) as f32 - 3.0,
+    },
+    Kind {
+        name: "fractional",
+        reading: |random| random.below(2001) as f32 / 800.0 - 1.25,
+    },
+    Kind {
+        name: "huge, whose sums overflow, and tiny",
+        reading: |random| {
+            const EXTREME: [f32; 10] = [
+                3e38,
+                -3e38,
+                f32::MAX,
+                f32::MIN,
+                f32::MIN / 2.0,
+                1e-45,
+                -1e-45,
+                1e-38,
+                0.0,
+                -0.0,
+            ];
+            EXTREME[random.below(EXTREME.len())]
+        },
+    },
+    Kind {
+        name: "any finite",
+        reading: |random| loop {
+            let any = f32::from_bits(random.number() as u32);
+            if any.is_finite() {
+                break any;
+            }
+        },
+    },
+];
+
+pub fn every_list(code: u8, rate: u8) -> Outcome {
+    let mut cases = 0;
+    for info in 0..=ALL_INFO {
+        let (out, scratch) = (vec![0xA5; info + 1], vec![0xA5; scratch_len(code, info) + 1]);
+        for len in 0..=ALL_LISTS {
+            for number in 0..6usize.pow(len) {
+                let list: Vec<f32> = (0..len).map(|at| VALUES[number / 6usize.pow(at) % 6]).collect();
+                let readings = &bytes(&list);
+                Call {
+                    code,
+                    rate,
+                    info,
+                    readings,
+                }
+                .compare(&out, &scratch)?;
+                cases += 1;
+            }
+        }
+    }
+    Ok(cases)
+}
+
+pub fn lengths(code: u8, rate: u8, kind: Kind, random: &mut Random) -> Outcome {
+    let mut cases = 0;
+    for info in (0..=LENGTHS).chain(LONG) {
+        let coded = coded_len(code, rate, info) as usize;
+        let lens = [0, 1, coded / 2, coded - 1, coded, coded + 1, coded + 50];
+        for len in lens {
+            let list: Vec<f32> = (0..len).map(|_| (kind.reading)(random)).collect();
+            cases += every_buffer(code, rate, info, &bytes(&list), random)?;
+        }
+        // A last piece of one to three bytes is surplus.
+        let mut cut: Vec<u8> = bytes(&(0..coded).map(|_| (kind.reading)(random)).collect::<Vec<f32>>());
+        cut.truncate((4 * coded).saturating_sub(1 + random.below(3)));
+        cases += every_buffer(code, rate, info, &cut, random)?;
+    }
+    Ok(cases)
+}
+
+/// Codewords sent through noise, from none to more than can be mended.
+pub fn noisy(code: u8, rate: u8, random: &mut Random) -> Outcome {
+    let mut cases = 0;
+    for spread in [0.0, 0.5, 1.0, 2.0, 4.0] {
+        for _ in 0..20 {
+            let info = 1 + random.below(300);
+            let word = random.bits(info);
+            let coded = coded_len(code, rate, info) as usize;
+            let sent = encode(code, rate, &word, &vec![0; coded]).out;
+            let list: Vec<f32> = sent
+                .iter()
+                .map(|bit| 1.0 - 2.0 * f32::from(*bit) + spread * (random.below(2001) as f32 / 1000.0 - 1.0))
+                .collect();
+            cases += every_buffer(code, rate, info, &bytes(&list), random)?;
+        }
+    }
+    Ok(cases)
+}
+
+/// Both buffers exact, and both long, filled with random bytes.
+fn every_buffer(code: u8, rate: u8, info: usize, readings: &[u8], random: &mut Random) -> Outcome {
+    for more in [0, 30] {
+        let out = filled(Fill::Varying, info + more, random);
+        let scratch = filled(Fill::Varying, scratch_len(code, info) + more, random);
+        Call {
+            code,
+            rate,
+            info,
+            readings,
+        }
+        .compare(&out, &scratch)?;
+    }
+    Ok(2)
+}

@@ -1,0 +1,104 @@
+//! Inputs that the decoder refuses, alone and several faults at once.
+
+use super::call::{Call, bytes, scratch_len};
+use crate::encoder::refused::{has, lowest};
+use crate::groups::Outcome;
+use crate::lent::{FILLS, Fill, filled};
+use expected::decoder::AfterBlock;
+use expected::encoder::coded_len;
+use expected::{INFO_LIMIT, Random, refused};
+
+const BAD: [f32; 4] = [f32::NAN, f32::INFINITY, f32::NEG_INFINITY, -f32::NAN];
+
+/// One bad reading at each place up to a few beyond the coded length, and a second one behind it.
+pub fn bad_readings(code: u8, rate: u8, random: &mut Random) -> Outcome {
+    let mut cases = 0;
+    for info in [0, 1, 9] {
+        let coded = coded_len(code, rate, info) as usize;
+        for place in 0..coded + 3 {
+            for bad in BAD {
+                let mut list = vec![1.0; coded + 3];
+                list[place] = bad;
+                let last = place + random.below(list.len() - place);
+                list[last] = bad;
+                let readings = &bytes(&list);
+                let out = filled(Fill::Varying, info, random);
+                let scratch = filled(Fill::Varying, scratch_len(code, info), random);
+                let call = Call {
+                    code,
+                    rate,
+                    info,
+                    readings,
+                };
+                call.compare(&out, &scratch)?;
+                if place < coded {
+                    let answer = refused(6) + place as u64;
+                    call.expect(&out.clone(), &scratch.clone(), &AfterBlock { answer, out, scratch })?;
+                }
+                cases += 1;
+            }
+        }
+    }
+    Ok(cases)
+}
+
+pub fn every_number(random: &mut Random) -> Outcome {
+    let readings = &bytes(&[-1.0, 0.5, 2.0]);
+    for code in 0..=255 {
+        for rate in 0..=255 {
+            let out = filled(Fill::Canary, 10, random);
+            let scratch = filled(Fill::Canary, scratch_len(1, 10), random);
+            Call {
+                code,
+                rate,
+                info: 10,
+                readings,
+            }
+            .compare(&out, &scratch)?;
+        }
+    }
+    Ok(256 * 256)
+}
+
+/// Every set of faults; the lowest number of the set must come, and no byte may change.
+pub fn faults(random: &mut Random) -> Outcome {
+    let mut cases = 0;
+    for faults in 1..64 {
+        for code in if has(faults, 1) { [2, 255] } else { [0, 1] } {
+            for rate in if has(faults, 2) { [5, 255] } else { [0, 4] } {
+                for info in if has(faults, 3) {
+                    [INFO_LIMIT + 1, usize::MAX]
+                } else {
+                    [1, INFO_LIMIT]
+                } {
+                    cases += faulty(faults, code, rate, info, random)?;
+                }
+            }
+        }
+    }
+    Ok(cases)
+}
+
+fn faulty(faults: u32, code: u8, rate: u8, info: usize, random: &mut Random) -> Outcome {
+    let need = info.min(INFO_LIMIT);
+    let room = if has(faults, 4) { need - 1 } else { need };
+    let rows = scratch_len(code, need);
+    let space = if has(faults, 5) { rows - 1 } else { rows };
+    let readings = &bytes(&[if has(faults, 6) { f32::NAN } else { 1.0 }]);
+    for fill in FILLS {
+        let (out, scratch) = (filled(fill, room, random), filled(fill, space, random));
+        let must = AfterBlock {
+            answer: refused(lowest(faults)),
+            out: out.clone(),
+            scratch: scratch.clone(),
+        };
+        Call {
+            code,
+            rate,
+            info,
+            readings,
+        }
+        .expect(&out, &scratch, &must)?;
+    }
+    Ok(2)
+}

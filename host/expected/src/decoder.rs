@@ -1,0 +1,187 @@
+//! The block decoder of readings. The word is the oracle's; the survivors and the score, which the oracle keeps to
+//! itself, are those of its arithmetic run again here, by 01's rules and from none of the proved code.
+
+use crate::encoder::selected;
+use crate::{INFO_LIMIT, refused};
+use oracle::fec::conv::{punctured_coded_len_with, viterbi_decode_soft_with};
+
+/// The door's answer, and the whole of both lent buffers after the call.
+#[derive(Debug, Clone, PartialEq, Eq)]
+pub struct AfterBlock {
+    pub answer: u64,
+    pub out: Vec<u8>,
+    pub scratch: Vec<u8>,
+}
+
+/// `relay_decode`, for buffers as they are before the call.
+pub fn decode(code: u8, rate: u8, info: usize, bytes: &[u8], out: &[u8], scratch: &[u8]) -> AfterBlock {
+    let mut after = AfterBlock {
+        answer: 0,
+        out: out.to_vec(),
+        scratch: scratch.to_vec(),
+    };
+    match accepted(code, rate, info, bytes, out.len(), scratch.len()) {
+        Ok(run) => {
+            after.answer = u64::from(run.score.to_bits());
+            after.out[..info].copy_from_slice(&run.word);
+            after.scratch[..run.survivors.len()].copy_from_slice(&run.survivors);
+        }
+        Err(answer) => after.answer = answer,
+    }
+    after
+}
+
+/// What is decoded, or the answer that refuses.
+fn accepted(code: u8, rate: u8, info: usize, bytes: &[u8], room: usize, scratch: usize) -> Result<Run, u64> {
+    let (oracle_code, oracle_rate) = selected(code, rate, info).map_err(refused)?;
+    debug_assert!(info <= INFO_LIMIT);
+    if room < info {
+        return Err(refused(4));
+    }
+    let trellis = &TRELLISES[usize::from(code)];
+    if scratch < trellis.steps(info) << trellis.width {
+        return Err(refused(5));
+    }
+    let readings: Vec<f32> = readings_of(bytes);
+    let coded = punctured_coded_len_with(oracle_code, info, oracle_rate);
+    if let Some(place) = readings.iter().take(coded).position(|reading| !reading.is_finite()) {
+        return Err(refused(6) + place as u64);
+    }
+    let run = trellis.run(&PATTERNS[usize::from(rate)], &readings, info);
+    let word = viterbi_decode_soft_with(oracle_code, &readings, info, oracle_rate);
+    assert_eq!(run.word, word, "the arithmetic run again is not the oracle's");
+    Ok(run)
+}
+
+/// Four bytes each, low first; a last piece under four bytes is surplus.
+pub fn readings_of(bytes: &[u8]) -> Vec<f32> {
+    let pieces = bytes.chunks_exact(4);
+    pieces
+        .map(|four| f32::from_le_bytes(four.try_into().unwrap()))
+        .collect()
+}
+
+struct Trellis {
+    width: usize,
+    taps: [u32; 2],
+}
+
+/// K5 and K7.
+const TRELLISES: [Trellis; 2] = [
+    Trellis {
+        width: 4,
+        taps: [0b10101, 0b10011],
+    },
+    Trellis {
+        width: 6,
+        taps: [0o171, 0o133],
+    },
+];
+
+/// The rows of the keep patterns, G0's and G1's, by the numbers of their rates.
+const PATTERNS: [[&str; 2]; 5] = [
+    ["1", "1"],
+    ["11", "10"],
+    ["110", "101"],
+    ["11010", "10101"],
+    ["1111010", "1000101"],
+];
+
+struct Run {
+    word: Vec<u8>,
+    score: f32,
+    survivors: Vec<u8>,
+}
+
+impl Trellis {
+    fn steps(&self, info: usize) -> usize {
+        info + self.width
+    }
+
+    fn run(&self, pattern: &[&str; 2], readings: &[f32], info: usize) -> Run {
+        let mark = f32::MIN / 2.0;
+        let states = 1 << self.width;
+        let mut metrics = vec![mark; states];
+        metrics[0] = 0.0;
+        let mut survivors = Vec::new();
+        let mut readings = readings.iter();
+        for step in 0..self.steps(info) {
+            let [a, b] = pattern.map(|row| match row.as_bytes()[step % row.len()] {
+                b'1' => readings.next().copied().unwrap_or(0.0),
+                _ => 0.0,
+            });
+            let mut next = vec![(mark, 0); states];
+            for state in (0..states).filter(|state| metrics[*state] > mark) {
+                for input in [0, 1] {
+                    let window = input << self.width | state;
+                    let [first, second] = self.taps.map(|taps| (taps & window as u32).count_ones() % 2);
+                    let gain = match (first, second) {
+                        (0, 0) => a + b,
+                        (0, _) => a - b,
+                        (_, 0) => -a + b,
+                        _ => -a - b,
+                    };
+                    let candidate = metrics[state] + gain;
+                    let new = &mut next[window >> 1];
+                    if candidate > new.0 {
+                        *new = (candidate, state as u8);
+                    }
+                }
+            }
+            metrics = next.iter().map(|new| new.0).collect();
+            survivors.extend(next.iter().map(|new| new.1));
+        }
+        Run {
+            word: self.way_back(&survivors, info),
+            score: metrics[0],
+            survivors,
+        }
+    }
+
+    fn way_back(&self, survivors: &[u8], info: usize) -> Vec<u8> {
+        let mut state = 0;
+        let mut inputs: Vec<u8> = survivors
+            .chunks(1 << self.width)
+            .rev()
+            .map(|row| {
+                let input = (state >> (self.width - 1)) as u8;
+                state = usize::from(row[state]);
+                input
+            })
+            .collect();
+        inputs.reverse();
+        inputs.truncate(info);
+        inputs
+    }
+}
+
+#[cfg(test)]
+mod tests {
+    use super::*;
+
+    fn after(info: usize, readings: &[f32]) -> AfterBlock {
+        let bytes: Vec<u8> = readings.iter().flat_map(|reading| reading.to_le_bytes()).collect();
+        decode(0, 0, info, &bytes, &[9; 4], &[9; 200])
+    }
+
+    #[test]
+    fn the_bench_sheet() {
+        assert_eq!(after(1, &[-1.0]).out, [1, 9, 9, 9]);
+        assert_eq!(after(1, &[-1.0]).answer, 0x3F80_0000);
+        assert_eq!(after(1, &[-1.0, 1.0]).out, [0, 9, 9, 9]);
+        assert_eq!(after(3, &[]).out, [0, 0, 0, 9]);
+        let mut eleven = [0.0; 11];
+        eleven[10] = f32::NAN;
+        assert_eq!(after(1, &eleven).answer, 0);
+        eleven[9] = f32::NAN;
+        assert_eq!(after(1, &eleven).answer, 6 << 32 | 9);
+    }
+
+    #[test]
+    fn what_lies_beyond_stays() {
+        let after = after(1, &[]);
+        assert_eq!(after.scratch[5 * 16..], [9; 120]);
+        // Only state 0 is there before the first step.
+        assert_eq!(after.scratch[..16], [0; 16]);
+    }
+}
