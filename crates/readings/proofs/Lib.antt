@@ -1,5 +1,6 @@
 -- Metrics: no metric is a NaN, so the score has bits. Examined: the first bad reading. Sides: a butterfly's correlations. Turn: one turn of a
--- step's loop. Surplus: readings behind those that are used have no part in the answer.
+-- step's loop. Surplus: readings behind those that are used have no part in the answer. WholeRun: whole numbers
+-- are decoded without rounding.
 pub mod Metrics
 pub mod Examined
 pub mod Candidates
@@ -13,3 +14,4 @@ pub mod Rows
 pub mod Selected
 pub mod Answers
 pub mod Surplus
+pub mod WholeRun

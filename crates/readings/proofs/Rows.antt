@@ -1,7 +1,7 @@
 -- The rows that all steps fill: each is a step's survivors, all of them are states, and the way back over them is the way back over the survivors.
 -- Assumes nothing.
-use mathlib.Core.List.{List, _++_, [], _∷_, append-assoc}
-use mathlib.Core.Path.{_≡_, refl, sym, ap, ap₂, subst, _∙_}
+use mathlib.Core.List.{List, _++_, append-assoc}
+use mathlib.Core.Path.{_≡_, sym, ap, ap₂, subst, _∙_}
 use Prim.Native.Nat.{ℕ, zero, suc, _+_, _-_, _*_, _^_, _≤_, _<_}
 use native.Mathlib.Decide.{decLt}
 use native.Mathlib.Nat.{suc-mul}
@@ -9,7 +9,8 @@ use native.Mathlib.Omega.{arith}
 use lib.Ieee.{Float}
 use lib.ListN.{length, getD, take, drop, length-append, List·getD-append}
 use lib.Seq.{take-at, drop-at, getD-append-add}
-use Rattle.best_path.specs.Run.{survivors, traced, inputInto}
+use Rattle.best_path.specs.Run.{survivors, traced}
+use Rattle.best_path.proofs.Simulation.{traced-same}
 use Rattle.best_path.proofs.Survivors.{length-survivors, survivor-below}
 use Rattle.trellis.specs.declared.ConvCode.{ConvCode}
 use Rattle.trellis.specs.Codeword.{stepsOf}
@@ -19,16 +20,6 @@ use Rattle.readings.specs.Sums.{largest, gain, started}
 use Rattle.readings.specs.Decode.{froms, word, filledRows}
 use Rattle.readings.specs.Post.{Halved, rowOf, Traceable}
 use Rattle.readings.proofs.Steps.{length-rows}
-
--- the way back looks at the survivors of the steps behind it only
-pub traced-same :
-    (code : ConvCode) (f g : ℕ → List ℕ) (t s : ℕ) → ((i : ℕ) → i < t → f i ≡ g i) → traced largest code f t s ≡ traced largest code g t s
-unfolding traced
-traced-same code f g zero s same = refl
-traced-same code f g (suc t) s same =
-    ap (λ (l : List ℕ). l ++ inputInto largest code s ∷ [])
-    (ap (λ (row : List ℕ). traced largest code f t (getD row s 0)) (same t (omega arith))
-    ∙ traced-same code f g t (getD (g t) s 0) (λ i h. same i (omega (arith, h))))
 
 module _ (code : ConvCode) (some : 0 < code .width) (p : Keep) (readings : List Float) where
   abbrev states : ℕ
@@ -112,5 +103,5 @@ module _
   unfolding word
   left-word =
       ap (take info)
-      (traced-same code (rowOf (2 * half) list) (λ (i : ℕ). froms code p readings i) (stepsOf code info) 0
+      (traced-same largest largest code (rowOf (2 * half) list) (λ (i : ℕ). froms code p readings i) (stepsOf code info) 0
       (λ i h. ap₂ (λ (n : ℕ) (l : List ℕ). rowOf n l i) two left ∙ row-at code (shape .held .some) p readings (stepsOf code info) rest i h))

@@ -13,6 +13,7 @@ use lib.ListN.{length, getD, take, drop, replicate, length-append, length-replic
 use lib.Seq.{take-all, take-take, length-take-le, getD-take, take-at}
 use Rattle.best_path.specs.Step.{Cell}
 use Rattle.best_path.specs.Run.{stepFrom, metsAfter, survivors}
+use Rattle.best_path.proofs.Simulation.{traced-same}
 use Rattle.encoder.specs.Encode.{lengthOf}
 use Rattle.refusal.specs.Answer.{refused, refuseWhen}
 use Rattle.refusal.specs.Limits.{most}
@@ -27,7 +28,6 @@ use Rattle.readings.specs.Places.{zero32, filled, place0, place1}
 use Rattle.readings.specs.Sums.{mark, largest, gain}
 use Rattle.readings.specs.Decode.{mets, froms, word, score, filledRows}
 use Rattle.readings.specs.Said.{mostReadings, decodeSaid}
-use Rattle.readings.proofs.Rows.{traced-same}
 use Rattle.readings.proofs.Answers.{length-few}
 
 -- ---- the steps
@@ -43,7 +43,7 @@ filled-taken true readings n i h =
 
 module _ (code : ConvCode) (p : Keep) (good : Pattern p) (readings : List Float) (n : ℕ) where
   -- a step reads no further than the coded length of the steps up to it
-  gain-taken : (t : ℕ) → codedLength p (suc t) ≤ n → gain code p (take n readings) t ≡ gain code p readings t
+  pub gain-taken : (t : ℕ) → codedLength p (suc t) ≤ n → gain code p (take n readings) t ≡ gain code p readings t
   unfolding gain place0 place1
   gain-taken t h =
       rw (
@@ -80,7 +80,7 @@ module _ (code : ConvCode) (p : Keep) (good : Pattern p) (readings : List Float)
     unfolding word
     word-taken =
         ap (take info)
-        (traced-same code (froms code p (take n readings)) (froms code p readings) (stepsOf code info) 0
+        (traced-same largest largest code (froms code p (take n readings)) (froms code p readings) (stepsOf code info) 0
         (λ t h. froms-taken t (omega (arith, coded-mono p good (suc t) (stepsOf code info) h))))
 
     pub score-taken : score code p (take n readings) info ≡ score code p readings info

@@ -18,7 +18,7 @@ use Rattle.trellis.proofs.Ends.{turned-by-state0, turned-by-state1, turned-by-i
 use Rattle.trellis.proofs.States.{states-two-halves}
 use Rattle.readings.specs.Sums.{largest, correlation, brings}
 use Rattle.readings.specs.Post.{cellOf, Winged, Crossed, newMets, newFroms}
-use Rattle.readings.specs.declared.Wing.{Wing}
+use Rattle.readings.specs.declared.branches.Wing.{Wing}
 use Rattle.readings.proofs.Sides.{sum-correlates, opposite-correlates}
 
 parity-bit : (taps w : ℕ) → parityOf taps w < 2

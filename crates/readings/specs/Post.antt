@@ -9,8 +9,8 @@ use Rattle.best_path.specs.Step.{Cell, unreached, relaxed, step}
 use Rattle.trellis.specs.declared.ConvCode.{ConvCode}
 use Rattle.trellis.specs.Post.{Narrow, Ends}
 use Rattle.trellis.specs.State.{window, parityOf}
-use Rattle.readings.specs.declared.Best.{Best}
-use Rattle.readings.specs.declared.Wing.{Wing}
+use Rattle.readings.specs.declared.branches.Best.{Best}
+use Rattle.readings.specs.declared.branches.Wing.{Wing}
 use Rattle.readings.specs.Sums.{largest, brings}
 
 -- what is known of a new state, as the code holds it

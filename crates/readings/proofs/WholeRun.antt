@@ -1,0 +1,250 @@
+-- Readings that are whole numbers whose sizes sum to at most 2 ^ 24 are decoded without rounding: the metrics, the survivors and the word are those of
+-- the run in whole numbers, and its total at state 0 is the score. Assumes nothing.
+use mathlib.Core.Bool.{Bool, true, false, not, cond}
+use mathlib.Core.List.{List, [], _∷_}
+use mathlib.Core.Path.{_≡_, refl, sym, ap, subst, _∙_}
+use Prim.Native.Nat.{ℕ, zero, suc, _+_, _-_, _^_, _≤_, _<_}
+use native.Mathlib.Nat.{le-refl, add-zero}
+use native.Mathlib.Numerals.{add-one}
+use native.Mathlib.Omega.{arith}
+use borrow.Author.Tests.{ltb-true, ltb-false}
+use lib.Dec.{ltb, eqb}
+use lib.Ieee.{Float, binary32, ofBits, add, sub, neg, lt, le}
+use lib.IntN.{ℤ, pos, negsuc, negℤ, natAbs, subℕ, _+ℤ_, _-ℤ_}
+use lib.ListN.{length, getD, take, getD-replicate, List·getD-eq-default}
+use lib.Pow.{pow-pos}
+use lib.Seq.{take-nil}
+use Rattle.best_path.specs.Run.{traced}
+use Rattle.best_path.specs.Path.{Total, none, total, wholes, added, isReached, larger, startedWhole}
+use Rattle.best_path.proofs.Simulation.{Simulates, mets-agree, survivors-agree, traced-agree}
+use Rattle.f32s.specs.Whole.{Whole}
+use Rattle.f32s.proofs.Ordered.{lt-trans, lt-irrefl}
+use Rattle.f32s.proofs.Wholes.{whole-zero, whole-neg, whole-add, whole-sub, whole-lt, mark-lt-whole, whole-not-le-mark}
+use Rattle.trellis.specs.declared.ConvCode.{ConvCode}
+use Rattle.trellis.specs.Codeword.{stepsOf}
+use Rattle.trellis.specs.Keep.{Keep, Pattern, keeps0, keeps1, codedLength}
+use Rattle.trellis.specs.State.{window, parityOf}
+use Rattle.trellis.proofs.Kept.{one, coded-suc, coded-mono}
+use Rattle.readings.specs.Places.{valueOf, filled, place0, place1}
+use Rattle.readings.specs.Sums.{mark, largest, correlation, brings, gain, started}
+use Rattle.readings.specs.Decode.{mets, froms, word, score}
+use Rattle.readings.specs.Wholes.{WholeReadings, absSum, wholeAt, wholePlace0, wholePlace1, wholeCorrelation, wholeGain, wholeMets, wholeFroms, IsTotal}
+use Rattle.readings.proofs.Surplus.{gain-taken}
+
+-- ---- sizes
+
+abs-neg : (a : ℤ) → natAbs (negℤ a) ≡ natAbs a
+abs-neg (pos zero) = refl
+abs-neg (pos (suc n)) = refl
+abs-neg (negsuc n) = refl
+
+abs-difference : (a b : ℕ) → natAbs (subℕ a b) ≤ a + b
+abs-difference a b = go (ltb a b) refl
+  where
+    go : (u : Bool) → ltb a b ≡ u → natAbs (cond u (negsuc (b - suc a)) (pos (a - b))) ≤ a + b
+    go true h = omega (arith, ltb-true)
+    go false h = omega arith
+
+abs-add : (a b : ℤ) → natAbs (a +ℤ b) ≤ natAbs a + natAbs b
+abs-add (pos a) (pos b) = le-refl (a + b)
+abs-add (pos a) (negsuc b) = abs-difference a (suc b)
+abs-add (negsuc a) (pos b) = omega (arith, abs-difference b (suc a))
+abs-add (negsuc a) (negsuc b) = omega arith
+
+-- one number more; past the end it is 0
+abs-take-suc : (zs : List ℤ) (n : ℕ) → absSum (take (suc n) zs) ≡ absSum (take n zs) + natAbs (getD zs n (pos 0))
+unfolding absSum
+abs-take-suc [] n = rw (take-nil n)
+abs-take-suc (z ∷ zs) zero = omega arith
+abs-take-suc (z ∷ zs) (suc n) = omega (arith, abs-take-suc zs n)
+
+abs-take-le : (zs : List ℤ) (n : ℕ) → absSum (take n zs) ≤ absSum zs
+unfolding absSum
+abs-take-le zs zero = omega arith
+abs-take-le [] (suc n) = omega arith
+abs-take-le (z ∷ zs) (suc n) = omega (arith, abs-take-le zs n)
+
+abs-take-kept : (kept : Bool) (zs : List ℤ) (n : ℕ) → absSum (take (n + one kept) zs) ≡ absSum (take n zs) + natAbs (wholeAt kept zs n)
+abs-take-kept true zs n = rw (add-one n) (abs-take-suc zs n)
+abs-take-kept false zs n = simp add-zero
+
+-- the sum of the sizes of what the first t steps read
+abbrev sizeRead : Keep → List ℤ → ℕ → ℕ
+sizeRead p zs t = absSum (take (codedLength p t) zs)
+
+-- each kept place reads a number of its own
+size-read-suc :
+    (p : Keep) → Pattern p → (zs : List ℤ) (t : ℕ) →
+    sizeRead p zs (suc t) ≡ sizeRead p zs t + (natAbs (wholePlace0 p zs t) + natAbs (wholePlace1 p zs t))
+unfolding wholePlace0 wholePlace1
+size-read-suc p good zs t =
+    let first = abs-take-kept (keeps0 p t) zs (codedLength p t) in
+    let second = abs-take-kept (keeps1 p t) zs (codedLength p t + one (keeps0 p t)) in
+    let counted : codedLength p (suc t) ≡ codedLength p t + one (keeps0 p t) + one (keeps1 p t) = omega (arith, coded-suc p good t) in
+    ap (λ (n : ℕ). absSum (take n zs)) counted ∙ omega arith
+
+-- ---- what a branch brings
+
+filled-whole :
+    {readings : List Float} {zs : List ℤ} → WholeReadings readings zs → (kept : Bool) (n : ℕ) →
+    Whole (valueOf (filled kept readings n)) (wholeAt kept zs n)
+filled-whole whole false n = whole-zero
+filled-whole {readings} {zs} whole true n = go (ltb n (length readings)) refl
+  where
+    go : (u : Bool) → ltb n (length readings) ≡ u → Whole (valueOf (filled true readings n)) (getD zs n (pos 0))
+    go true h = rw h (whole .each n (omega (arith, ltb-true, whole .sized)))
+    go false h = rw (h, List·getD-eq-default zs (pos 0) {n = n} (omega (arith, ltb-false, whole .sized))) whole-zero
+
+-- by which of the coded bits are 0
+abbrev signedSum : Bool → Bool → ℤ → ℤ → ℤ
+signedSum p q a b = cond p (cond q (a +ℤ b) (a -ℤ b)) (cond q (negℤ a +ℤ b) (negℤ a -ℤ b))
+
+correlation-size : (a b : ℤ) (c0 c1 : ℕ) → natAbs (wholeCorrelation a b c0 c1) ≤ natAbs a + natAbs b
+unfolding wholeCorrelation
+correlation-size a b c0 c1 = go (eqb c0 0) (eqb c1 0)
+  where
+    go : (p q : Bool) → natAbs (signedSum p q a b) ≤ natAbs a + natAbs b
+    go true true = abs-add a b
+    go true false = omega (arith, abs-add a (negℤ b), abs-neg b)
+    go false true = omega (arith, abs-add (negℤ a) b, abs-neg a)
+    go false false = omega (arith, abs-add (negℤ a) (negℤ b), abs-neg a, abs-neg b)
+
+correlation-whole :
+    {x y : Float} {a b : ℤ} → Whole x a → Whole y b → natAbs a + natAbs b ≤ 2 ^ 24 → (c0 c1 : ℕ) →
+    Whole (correlation x y c0 c1) (wholeCorrelation a b c0 c1)
+unfolding correlation wholeCorrelation
+correlation-whole {x} {y} {a} {b} v w small c0 c1 = go (eqb c0 0) (eqb c1 0) (correlation-size a b c0 c1)
+  where
+    go :
+        (p q : Bool) → natAbs (signedSum p q a b) ≤ natAbs a + natAbs b →
+        Whole (cond p (cond q (add binary32 x y) (sub binary32 x y)) (cond q (add binary32 (neg x) y) (sub binary32 (neg x) y))) (signedSum p q a b)
+    go true true h = whole-add binary32 v w (omega arith)
+    go true false h = whole-sub binary32 v w (omega arith)
+    go false true h = whole-add binary32 (whole-neg v) w (omega arith)
+    go false false h = whole-sub binary32 (whole-neg v) w (omega arith)
+
+-- ---- which metrics belong together
+
+mark-le-mark : le mark mark ≡ true
+unfolding le ofBits
+mark-le-mark = refl
+
+whole-not-lt-mark : {x : Float} {z : ℤ} → Whole x z → natAbs z ≤ 2 ^ 24 → lt x mark ≡ false
+whole-not-lt-mark {x} w small = go (lt x mark) refl
+  where
+    go : (u : Bool) → lt x mark ≡ u → u ≡ false
+    go true h = sym (lt-trans mark x mark (mark-lt-whole w small) h) ∙ lt-irrefl mark
+    go false h = refl
+
+total-started : (code : ConvCode) (bound s : ℕ) → s < 2 ^ code .width → IsTotal bound (getD (started code) s mark) (getD (startedWhole code) s none)
+total-started code bound zero h = (whole-zero, omega arith)
+total-started code bound (suc s) h =
+    let others : s < 2 ^ code .width - 1 = omega arith in
+    rw (getD-replicate (2 ^ code .width - 1) s none none others) (getD-replicate (2 ^ code .width - 1) s mark mark others)
+
+total-up : (bound more : ℕ) → bound ≤ more → (x : Float) (m : Total) → IsTotal bound x m → IsTotal more x m
+total-up bound more h x none k = k
+total-up bound more h x (total z) k = (k .0, omega (arith, k .1))
+
+module _ (bound : ℕ) (small : bound ≤ 2 ^ 24) where
+  total-reached : (x : Float) (m : Total) → IsTotal bound x m → not (le x mark) ≡ isReached m
+  total-reached x none h = rw (h, mark-le-mark)
+  total-reached x (total z) h = ap not (whole-not-le-mark (h .0) (omega (arith, h .1)))
+
+  total-better : (x y : Float) (m n : Total) → IsTotal bound x m → IsTotal bound y n → lt y x ≡ larger m n
+  total-better x y none none h k = rw (h, k) (lt-irrefl mark)
+  total-better x y none (total w) h k = rw h (whole-not-lt-mark (k .0) (omega (arith, k .1)))
+  total-better x y (total z) none h k = rw k (mark-lt-whole (h .0) (omega (arith, h .1)))
+  total-better x y (total z) (total w) h k = whole-lt (k .0) (h .0)
+
+-- ---- the steps
+
+module _
+    (code : ConvCode) (some : 0 < code .width) (p : Keep) (good : Pattern p) (readings : List Float) (zs : List ℤ) (steps : ℕ)
+    (whole : WholeReadings (take (codedLength p steps) readings) zs) (small : absSum zs ≤ 2 ^ 24) where
+  abbrev used : List Float
+  used = take (codedLength p steps) readings
+
+  abbrev c0 : ℕ → ℕ → ℕ
+  c0 s i = parityOf (code .g0) (window code s i)
+
+  abbrev c1 : ℕ → ℕ → ℕ
+  c1 s i = parityOf (code .g1) (window code s i)
+
+  read-small : (t : ℕ) → sizeRead p zs t ≤ 2 ^ 24
+  read-small t = omega (arith, abs-take-le zs (codedLength p t))
+
+  used-gain-whole : (t s i : ℕ) → Whole (gain code p used t s i) (wholeGain code p zs t s i)
+  unfolding gain brings wholeGain place0 place1 wholePlace0 wholePlace1
+  used-gain-whole t s i =
+      let first = filled-whole whole (keeps0 p t) (codedLength p t) in
+      let second = filled-whole whole (keeps1 p t) (codedLength p t + one (keeps0 p t)) in
+      correlation-whole first second (omega (arith, size-read-suc p good zs t, read-small (suc t))) (c0 s i) (c1 s i)
+
+  gain-whole : (t s i : ℕ) → t < steps → Whole (gain code p readings t s i) (wholeGain code p zs t s i)
+  gain-whole t s i h =
+      subst (λ (g : ℕ → ℕ → Float). Whole (g s i) (wholeGain code p zs t s i))
+      (gain-taken code p good readings (codedLength p steps) t (coded-mono p good (suc t) steps h)) (used-gain-whole t s i)
+
+  gain-size : (t s i : ℕ) → natAbs (wholeGain code p zs t s i) ≤ natAbs (wholePlace0 p zs t) + natAbs (wholePlace1 p zs t)
+  unfolding wholeGain
+  gain-size t s i = correlation-size (wholePlace0 p zs t) (wholePlace1 p zs t) (c0 s i) (c1 s i)
+
+  -- the sizes of the old total and of what is read now are within those of all that is read, so the sum is exact
+  total-added :
+      (t s i : ℕ) → t < steps → (x : Float) (m : Total) → IsTotal (sizeRead p zs t) x m → not (le x mark) ≡ true →
+      IsTotal (sizeRead p zs (suc t)) (add binary32 x (gain code p readings t s i)) (added m (wholeGain code p zs t s i))
+  total-added t s i within x none h reached = cc (total-reached (sizeRead p zs t) (read-small t) x none h)
+  total-added t s i within x (total z) h reached =
+      let size : natAbs (z +ℤ wholeGain code p zs t s i) ≤ sizeRead p zs (suc t) =
+      omega (arith, h .1, abs-add z (wholeGain code p zs t s i), gain-size t s i, size-read-suc p good zs t) in
+      (whole-add binary32 (h .0) (gain-whole t s i within) (omega (arith, read-small (suc t))), size)
+
+  simulated :
+      Simulates largest wholes code (gain code p readings) (wholeGain code p zs) (started code) (startedWhole code)
+      (λ (t : ℕ). IsTotal (sizeRead p zs t)) steps
+  simulated =
+      record {
+        marks = λ t. refl;
+        start = λ s h. total-started code (sizeRead p zs 0) s h;
+        reached = λ t h x m. total-reached (sizeRead p zs t) (read-small t) x m;
+        added = λ t s i h g k x m. total-added t s i h x m;
+        better = λ t h x y m n. total-better (sizeRead p zs t) (read-small t) x y m n;
+      }
+
+  abbrev metAt : ℕ → ℕ → Float
+  metAt t s = getD (mets code p readings t) s mark
+
+  abbrev totalAt : ℕ → ℕ → Total
+  totalAt t s = getD (wholeMets code p zs t) s none
+
+  pub mets-whole : (t s : ℕ) → t ≤ steps → s < 2 ^ code .width → IsTotal (absSum zs) (metAt t s) (totalAt t s)
+  unfolding mets
+  mets-whole t s within h =
+      total-up (sizeRead p zs t) (absSum zs) (abs-take-le zs (codedLength p t)) (metAt t s) (totalAt t s) (mets-agree some simulated t s within h)
+
+  -- the same states are skipped
+  pub reached-whole : (t s : ℕ) → t ≤ steps → s < 2 ^ code .width → largest .reached (metAt t s) ≡ isReached (totalAt t s)
+  reached-whole t s within h = total-reached (absSum zs) small (metAt t s) (totalAt t s) (mets-whole t s within h)
+
+  pub froms-whole : (t : ℕ) → t < steps → froms code p readings t ≡ wholeFroms code p zs t
+  unfolding froms
+  froms-whole = survivors-agree some simulated
+
+-- ---- the answer
+
+module _
+    (code : ConvCode) (some : 0 < code .width) (p : Keep) (good : Pattern p) (readings : List Float) (zs : List ℤ) (info : ℕ)
+    (whole : WholeReadings (take (codedLength p (stepsOf code info)) readings) zs) (small : absSum zs ≤ 2 ^ 24) where
+  abbrev steps : ℕ
+  steps = stepsOf code info
+
+  pub word-whole : word code p readings info ≡ take info (traced wholes code (wholeFroms code p zs) (stepsOf code info) 0)
+  unfolding word froms
+  word-whole = ap (take info) (traced-agree some (simulated code some p good readings zs steps whole small) steps 0 (le-refl steps))
+
+  pub score-whole : (z : ℤ) → getD (wholeMets code p zs (stepsOf code info)) 0 none ≡ total z → Whole (score code p readings info) z
+  unfolding score
+  score-whole z e =
+      let last = mets-whole code some p good readings zs steps whole small steps 0 (le-refl steps) (pow-pos (code .width)) in
+      subst (IsTotal (absSum zs) (getD (mets code p readings steps) 0 mark)) e last .0

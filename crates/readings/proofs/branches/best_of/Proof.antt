@@ -1,0 +1,24 @@
+-- `readings::branches::best_of`: any candidate won, or none. Assumes nothing.
+use borrow.Author.Needs.{needs}
+use Rattle.readings.proofs.Candidates.{any-won, none-won}
+use Rattle.readings.proofs.branches.best_of.Statement.{statement}
+use Rattle.readings.proofs.branches.best_of.Tie as tie
+
+larger-requires : tie.Need-larger-requires
+larger-requires c κs = search needs
+
+larger-requires-2 : tie.Need-larger-requires-2
+larger-requires-2 c κs = search needs
+
+from-larger-requires : tie.Need-from-larger-requires
+from-larger-requires c κs = search needs
+
+returns : tie.Need-returns
+returns c = any-won _ _ _ _ _ _ (c .before .before .before .larger .ensures) (c .before .before .larger2 .ensures) (c .before .from-larger .ensures) (c .if1 .taken)
+
+returns-2 : tie.Need-returns-2
+returns-2 c = none-won _ _ _ _ _ _ (c .before .before .before .larger .ensures) (c .before .before .larger2 .ensures) (c .before .from-larger .ensures) (c .if1 .left)
+
+pub best-of-spec : {M : Type 1} → statement M
+best-of-spec =
+    tie.close (tie.spec larger-requires larger-requires-2 from-larger-requires returns returns-2)

@@ -1,0 +1,31 @@
+-- `readings::branches::butterfly`: two branches for each of the two new states. Assumes nothing.
+use borrow.Author.Needs.{needs}
+use Rattle.readings.proofs.Candidates.{both-relaxed}
+use Rattle.readings.proofs.branches.butterfly.Statement.{statement}
+use Rattle.readings.proofs.branches.butterfly.Tie as tie
+
+standing-requires : tie.Need-standing-requires
+standing-requires c κs = search needs
+
+standing-requires-2 : tie.Need-standing-requires-2
+standing-requires-2 c κs = search needs
+
+best-of-requires : tie.Need-best-of-requires
+best-of-requires c κs = search needs
+
+best-of-requires-2 : tie.Need-best-of-requires-2
+best-of-requires-2 c κs = search needs
+
+returns : tie.Need-returns
+returns c =
+    let even = c .before .before .before .standing .ensures in
+    let odd = c .before .before .standing2 .ensures in
+    record {
+      low = both-relaxed _ _ _ _ _ _ _ _ _ even odd (c .before .best-of .ensures);
+      high = both-relaxed _ _ _ _ _ _ _ _ _ even odd (c .best-of2 .ensures);
+    }
+
+pub butterfly-spec : {M : Type 1} → statement M
+butterfly-spec =
+    tie.close
+    (tie.spec standing-requires standing-requires-2 best-of-requires best-of-requires-2 returns)

@@ -1,0 +1,138 @@
+// All steps from state 0: add, compare, select, with the survivors of each kept.
+ghost use mathlib.Core.Bool.{cond};
+ghost use mathlib.Core.List.{_++_};
+ghost use mathlib.Core.Path.{_≡_};
+ghost use Prim.Native.Nat.{_+_, _*_, _^_, _<_, _≤_};
+ghost use lib.Dec.{eqb};
+ghost use lib.ListN.{length, getD, drop};
+ghost use Rattle.readings.specs.Decode.{mets, filledRows};
+ghost use Rattle.readings.specs.Places.{valueOf, filled};
+ghost use Rattle.readings.specs.Post.{Halved, Crossed, newMets, newFroms};
+ghost use Rattle.readings.specs.Sums.{mark};
+ghost use Rattle.trellis.specs.Choice.{keepOf};
+ghost use Rattle.trellis.specs.Post.{Rows};
+use crate::branches::MARK;
+use crate::branches::butterfly;
+use crate::branches::signed;
+use trellis::ConvCode;
+use trellis::KeepPattern;
+
+// One step that reads a and b: the new metrics go to the front of next, the survivors to the front of row.
+// Survivor numbers come from a counter of their own: made from n they keep the loop from being
+// vectorised well.
+fn step(
+    code: ConvCode,
+    half: usize,
+    c0: &[u32; 32],
+    c1: &[u32; 32],
+    a: f32,
+    b: f32,
+    pm: &[f32; 64],
+    next: &mut [f32; 64],
+    row: &mut [u8],
+)
+    requires crossed { ⌜ Crossed code half (now c0) (now c1) ⌝ }
+    requires room { ⌜ 2 * half ≤ length (now row) ⌝ }
+    ensures mets { λ _. ⌜ now (next .exit) ≡ newMets code (now (pm .entry)) a b ++ drop (2 ^ code .width) (now (next .entry)) ⌝ }
+    ensures froms { λ _. ⌜ now (row .exit) ≡ newFroms code (now (pm .entry)) a b ++ drop (2 ^ code .width) (now (row .entry)) ⌝ }
+{
+    // Lent as a slice, the array tells its length.
+    let whole = &next[..];
+    let mut s: u8 = 0;
+    for n in 0..half {
+        let x = signed(c0[n], a);
+        let y = signed(c1[n], b);
+        let even = 2 * n;
+        let w = butterfly(pm[even], pm[even + 1], s, x + y, -x - y);
+        let low = w.low;
+        let high = w.high;
+        next[n] = low.met;
+        next[n + half] = high.met;
+        row[n] = low.from;
+        row[n + half] = high.from;
+        s += 2;
+    }
+}
+
+// For each even state 2n the coded bits that it sends on the input 0.
+pub struct Sent {
+    pub c0: [u32; 32],
+    pub c1: [u32; 32],
+}
+
+fn sent_by_even(code: ConvCode, half: usize) -> Sent
+    requires { ⌜ Halved code half ⌝ }
+    ensures { λ r. ⌜ Crossed code half (r .c0) (r .c1) ⌝ }
+{
+    let mut c0 = [0; 32];
+    let mut c1 = [0; 32];
+    for n in 0..half {
+        let even = 2 * n;
+        let pair = trellis::branch_bits(code, even as u32, 0);
+        c0[n] = pair.c0 as u32;
+        c1[n] = pair.c1 as u32;
+    }
+    Sent { c0, c1 }
+}
+
+// The reading of a place: 0.0 where it was deleted or is missing.
+fn read(column: u8, readings: &[f32], at: usize) -> f32
+    ensures { λ r. ⌜ r ≡ valueOf (filled (eqb column 1) (now (readings .entry)) at) ⌝ }
+{
+    if column == 1 {
+        if at < readings.len() {
+            return readings[at];
+        }
+    }
+    0.0
+}
+
+// The number of the reading after that place.
+fn after(column: u8, at: usize) -> usize
+    requires { ⌜ at < 1048576 ⌝ }
+    ensures { λ r. ⌜ r ≡ at + cond (eqb column 1) 1 0 ⌝ }
+{
+    if column == 1 { at + 1 } else { at }
+}
+
+// All steps, from state 0. The survivors of each go to a row of rows; answers state 0's last metric.
+pub fn forward(
+    code: ConvCode,
+    half: usize,
+    keep: KeepPattern,
+    readings: &[f32],
+    steps: usize,
+    rows: &mut [u8],
+) -> f32
+    requires shape { ⌜ Halved code half ⌝ }
+    requires pattern { ⌜ Rows keep ⌝ }
+    requires short { ⌜ steps ≤ 65536 ⌝ }
+    requires room { ⌜ steps * (2 * half) ≤ length (now rows) ⌝ }
+    ensures score { λ r. ⌜ r ≡ getD (mets code (keepOf keep) (now (readings .entry)) steps) 0 mark ⌝ }
+    ensures survivors { λ _. ⌜ now (rows .exit) ≡ filledRows code (keepOf keep) (now (readings .entry)) steps ++ drop (steps * (2 * half)) (now (rows .entry)) ⌝ }
+{
+    let sent = sent_by_even(code, half);
+    let c0 = sent.c0;
+    let c1 = sent.c1;
+    let period = keep.period;
+    let row0 = keep.row0;
+    let row1 = keep.row1;
+    let states = 2 * half;
+    let mut pm = [MARK; 64];
+    pm[0] = 0.0;
+    let mut next = pm;
+    let mut column = 0;
+    let mut at = 0;
+    let mut to = 0;
+    for t in 0..steps {
+        let a = read(row0[column], readings, at);
+        at = after(row0[column], at);
+        let b = read(row1[column], readings, at);
+        at = after(row1[column], at);
+        step(code, half, &c0, &c1, a, b, &pm, &mut next, &mut rows[to..]);
+        pm = next;
+        to += states;
+        column = trellis::next_column(column, period);
+    }
+    pm[0]
+}
