@@ -1,5 +1,5 @@
 -- Visiting: the visiting order comes to the form by new state. Survivors: what later parts need of a step. Metrics: what every metric is. Stored: the
--- butterfly's loop comes to the step. Order: the order of whole numbers. Words: paths an input at a time. Choice: which of two paths beats the other.
+-- butterfly's loop comes to the step. Order: the order of whole numbers, and of states. Words: paths an input at a time. Choice: which of two paths beats the other.
 -- BestPath: the way back is the best path. InfoWords: and from state 0 the best info word. Simulation: metrics that agree step by step have runs that
 -- agree.
 pub mod Visiting

@@ -28,7 +28,7 @@ take-inputs (suc t) [] h i = lit< tt
 take-inputs (suc t) (b ∷ w) h zero = h 0
 take-inputs (suc t) (b ∷ w) h (suc i) = take-inputs t w (λ j. h (suc j)) i
 
-one-input : (b : ℕ) → b < 2 → Inputs (b ∷ [])
+pub one-input : (b : ℕ) → b < 2 → Inputs (b ∷ [])
 one-input b h zero = h
 one-input b h (suc i) = lit< tt
 

@@ -96,7 +96,7 @@ filled-whole {readings} {zs} whole true n = go (ltb n (length readings)) refl
     go false h = rw (h, List·getD-eq-default zs (pos 0) {n = n} (omega (arith, ltb-false, whole .sized))) whole-zero
 
 -- by which of the coded bits are 0
-abbrev signedSum : Bool → Bool → ℤ → ℤ → ℤ
+abbrev pub signedSum : Bool → Bool → ℤ → ℤ → ℤ
 signedSum p q a b = cond p (cond q (a +ℤ b) (a -ℤ b)) (cond q (negℤ a +ℤ b) (negℤ a -ℤ b))
 
 correlation-size : (a b : ℤ) (c0 c1 : ℕ) → natAbs (wholeCorrelation a b c0 c1) ≤ natAbs a + natAbs b

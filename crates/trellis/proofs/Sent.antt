@@ -2,7 +2,7 @@
 use mathlib.Core.List.{List, [], _∷_, _++_, map}
 use mathlib.Core.Path.{_≡_, refl, sym, ap, ap₂, subst, _∙_}
 use Prim.Native.Nat.{ℕ, zero, suc, _+_, _*_, _%_, _^_, _<_}
-use native.Mathlib.Nat.{mod-lt}
+use native.Mathlib.Nat.{mod-lt, mod-eq-of-lt}
 use native.Mathlib.Omega.{arith}
 use lib.Dec.{lit<}
 use lib.ListN.{length, getD, replicate, List·getD-map}
@@ -35,6 +35,16 @@ getD-lowest bytes t = List·getD-map (λ (b : ℕ). b % 2) bytes t 0
 
 pub lowest-inputs : (bytes : List ℕ) → Inputs (lowestBits bytes)
 lowest-inputs bytes t = subst (λ (n : ℕ). n < 2) (sym (getD-lowest bytes t)) (mod-lt (getD bytes t 0) (lit< tt))
+
+-- bits are their own lowest bits
+lowest-same : (bits : List ℕ) → Inputs bits → lowestBits bits ≡ bits
+unfolding lowestBits
+lowest-same [] are = refl
+lowest-same (b ∷ bits) are = ap₂ _∷_ (mod-eq-of-lt (are 0)) (lowest-same bits (λ t. are (suc t)))
+
+pub tailed-bits : (code : ConvCode) (bits : List ℕ) → Inputs bits → zeroTailed code bits ≡ bits ++ replicate (code .width) 0
+unfolding zeroTailed
+tailed-bits code bits are = ap (λ (xs : List ℕ). xs ++ replicate (code .width) 0) (lowest-same bits are)
 
 getD-zeros : (n t : ℕ) → _≡_ {A = ℕ} (getD (replicate n 0) t 0) 0
 getD-zeros zero t = refl

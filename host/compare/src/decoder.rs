@@ -1,6 +1,7 @@
 //! The block decoder of readings: which groups are compared.
 
 mod accepted;
+mod best;
 mod call;
 mod refused;
 
@@ -38,6 +39,13 @@ pub fn run(groups: &mut Groups, random: &mut Random) {
             );
         }
     }
+    groups.report(
+        &format!(
+            "decode, whole readings against every word of 0 to {} bits: the best, first among equals, its score, and that it stays",
+            best::ALL_BITS
+        ),
+        best::every_word(random),
+    );
     groups.report("decode, every code and rate number", refused::every_number(random));
     groups.report("decode, every set of the faults 1 to 6", refused::faults(random));
 }

@@ -1,11 +1,12 @@
-//! Runs the proved doors, and the program `replay` for what has no door, side by side with the oracle, one module for
-//! each area. A line for each group says what was compared and how many cases, and `same` or the first case that
-//! differs; the last line counts the groups.
+//! Runs the proved doors, the program `relay`, and the program `replay` for what has no door, side by side with the
+//! oracle, one module for each area. A line for each group says what was compared and how many cases, and `same` or
+//! the first case that differs; the last line counts the groups.
 
 mod decoder;
 mod encoder;
 mod groups;
 mod lent;
+mod program;
 mod replay;
 mod varicode;
 
@@ -23,5 +24,6 @@ fn main() -> ExitCode {
     encoder::run(&mut groups, random);
     decoder::run(&mut groups, random);
     varicode::run(&mut groups, random);
+    program::run(&mut groups, random);
     groups.finish()
 }

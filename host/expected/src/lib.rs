@@ -3,6 +3,7 @@
 
 pub mod decoder;
 pub mod encoder;
+pub mod program;
 mod random;
 pub mod varicode;
 

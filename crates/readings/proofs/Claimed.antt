@@ -1,0 +1,113 @@
+-- Demand 3: the decoded word wins, first among equals, and it stays. For any code and keep pattern, and so for those that numbers select. Assumes nothing.
+use mathlib.Core.Bool.{true, false, true≢false}
+use mathlib.Core.List.{List, append-cancel-right}
+use mathlib.Core.Logic.{_⊎_, inl, inr, ⊎-elim}
+use mathlib.Core.Path.{_≡_, sym, ap, subst, _∙_}
+use Prim.Native.Nat.{ℕ, _<_}
+use lib.Ieee.{Float}
+use lib.IntN.{ℤ, _+ℤ_, +ℤ-comm}
+use lib.ListN.{length, replicate}
+use lib.Signed.{ltZ}
+use Rattle.best_path.specs.Path.{Ahead}
+use Rattle.best_path.proofs.InfoWords.{BestInfo, info-leads, best-info-word}
+use Rattle.best_path.proofs.Order.{AtMost, ltZ-total, ltZ-irrefl, at-most-not-below, at-most-antisym, at-most-rest, ahead-asym}
+use Rattle.f32s.specs.Whole.{Whole}
+use Rattle.trellis.specs.declared.ConvCode.{ConvCode}
+use Rattle.trellis.specs.Choice.{codeOf, patternOf}
+use Rattle.trellis.specs.Codeword.{stepsOf, codeword}
+use Rattle.trellis.specs.Keep.{Keep, Pattern, codedLength}
+use Rattle.trellis.proofs.Chosen.{code-narrow, rate-pattern}
+use Rattle.trellis.proofs.Sent.{length-codeword, tailed-bits}
+use Rattle.readings.specs.Claim.{InfoWord, Exact, Towards, scoreOf, statesOf, Claim}
+use Rattle.readings.specs.Decode.{word, score}
+use Rattle.readings.specs.Wholes.{wholeGain}
+use Rattle.readings.proofs.Score.{gained-codeword}
+use Rattle.readings.proofs.Towards.{codeword-bits, agreement-towards}
+use Rattle.readings.proofs.WholeRun.{word-whole, score-whole}
+
+module _ (code : ConvCode) (some : 0 < code .width) (p : Keep) (good : Pattern p) (info : ℕ) where
+  abbrev points : List ℕ → List ℤ → ℤ
+  points = scoreOf code p info
+
+  -- the same word, or the tie rule puts it first
+  abbrev First : List ℕ → List ℕ → Type 0
+  First v u = (v ≡ u) ⊎ Ahead (statesOf code p info v) (statesOf code p info u)
+
+  module _ (readings : List Float) (zs : List ℤ) (exact : Exact code p info readings zs) where
+    abbrev decoded : List ℕ
+    decoded = word code p readings info
+
+    best-decoded : (z : ℤ) × BestInfo code (wholeGain code p zs) info decoded z
+    best-decoded = rw (word-whole code some p good readings zs info (exact .whole) (exact .small)) (best-info-word code some (wholeGain code p zs) info)
+
+    decoded-is-word : InfoWord info decoded
+    decoded-is-word = record { sized = best-decoded .1 .sized; bits = best-decoded .1 .bits }
+
+    decoded-beats :
+        (u : List ℕ) → InfoWord info u →
+        (ltZ (points u zs) (points decoded zs) ≡ true) ⊎ ((points u zs ≡ points decoded zs) × First decoded u)
+    decoded-beats u is =
+        rw (
+          ← gained-codeword code some p good zs info u is,
+          ← gained-codeword code some p good zs info decoded decoded-is-word,
+          tailed-bits code u (is .bits),
+          tailed-bits code decoded (decoded-is-word .bits),
+        )
+        (⊎-elim (λ h. inl h) (λ h. inr (h .0, ⊎-elim (λ e. inl (append-cancel-right decoded u (replicate (code .width) 0) e)) (λ a. inr a) (h .1)))
+        (best-decoded .1 .best .best _ (info-leads code some info u (is .sized) (is .bits)) .beats))
+
+    decoded-wins : (u : List ℕ) → InfoWord info u → ltZ (points decoded zs) (points u zs) ≡ false
+    decoded-wins u is = at-most-not-below (points u zs) (points decoded zs) (⊎-elim (λ h. inl h) (λ h. inr (h .0)) (decoded-beats u is))
+
+    decoded-first : (u : List ℕ) → InfoWord info u → points u zs ≡ points decoded zs → First decoded u
+    decoded-first u is e =
+        ⊎-elim (λ h. absurd (true≢false (sym (rw e at h) ∙ ltZ-irrefl (points decoded zs)))) (λ h. h .1) (decoded-beats u is)
+
+    decoded-scored : Whole (score code p readings info) (points decoded zs)
+    decoded-scored =
+        subst (Whole (score code p readings info))
+        (sym (best-decoded .1 .best .gains-it) ∙ gained-codeword code some p good zs info decoded decoded-is-word)
+        (score-whole code some p good readings zs info (exact .whole) (exact .small) (best-decoded .0) (best-decoded .1 .counted))
+
+  -- After the move the two words tie, and so they did before it; each time the tie rule puts the same one first.
+  decoded-stays :
+      (readings : List Float) (zs : List ℤ) → Exact code p info readings zs → (others : List Float) (moved : List ℤ) →
+      Exact code p info others moved → Towards (codeword code p (word code p readings info)) zs moved →
+      word code p others info ≡ word code p readings info
+  decoded-stays readings zs exact others moved also near =
+      let v = word code p readings info in
+      let w = word code p others info in
+      let is-v = decoded-is-word readings zs exact in
+      let is-w = decoded-is-word others moved also in
+      let sized : length (codeword code p w) ≡ length (codeword code p v) =
+      length-codeword code p good w ∙ ap (λ (n : ℕ). codedLength p (stepsOf code n)) (is-w .sized ∙ sym (is-v .sized))
+      ∙ sym (length-codeword code p good v) in
+      let nearer : AtMost (points w moved +ℤ points v zs) (points w zs +ℤ points v moved) =
+      agreement-towards (codeword code p w) (codeword code p v) zs moved sized (codeword-bits code p v) near in
+      let before : AtMost (points w zs) (points v zs) = ltZ-total _ _ (decoded-wins readings zs exact w is-w) in
+      let after : AtMost (points v moved) (points w moved) = ltZ-total _ _ (decoded-wins others moved also v is-v) in
+      let tied : points w zs ≡ points v zs = at-most-antisym _ _ before (at-most-rest _ _ _ _ nearer after) in
+      let turned : AtMost (points v zs +ℤ points w moved) (points v moved +ℤ points w zs) =
+      rw (+ℤ-comm (points v zs) (points w moved), +ℤ-comm (points v moved) (points w zs)) nearer in
+      let still-tied : points v moved ≡ points w moved = at-most-antisym _ _ after (at-most-rest _ _ _ _ turned before) in
+      ⊎-elim sym
+      (λ a. ⊎-elim (λ e. e) (λ b. absurd (ahead-asym _ _ a b)) (decoded-first others moved also v is-v still-tied))
+      (decoded-first readings zs exact w is-w tied)
+
+pub best-word-wins :
+    (code : ConvCode) → 0 < code .width → (p : Keep) → Pattern p → (info : ℕ) (readings : List Float) (zs : List ℤ) →
+    Exact code p info readings zs → Claim code p info readings zs
+best-word-wins code some p good info readings zs exact =
+    record {
+      is-word = decoded-is-word code some p good info readings zs exact;
+      wins = decoded-wins code some p good info readings zs exact;
+      first = decoded-first code some p good info readings zs exact;
+      scored = decoded-scored code some p good info readings zs exact;
+      stays = decoded-stays code some p good info readings zs exact;
+    }
+
+-- the codes and keep patterns of the tables
+pub decoded-word-wins :
+    (code rate info : ℕ) (readings : List Float) (zs : List ℤ) →
+    Exact (codeOf code) (patternOf rate) info readings zs → Claim (codeOf code) (patternOf rate) info readings zs
+decoded-word-wins code rate = best-word-wins (codeOf code) (code-narrow code .some) (patternOf rate) (rate-pattern rate)

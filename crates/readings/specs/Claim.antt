@@ -1,0 +1,63 @@
+-- Demand 3: the best word wins, first among equals, and it stays. What is claimed of a decoding; definitions only.
+use mathlib.Core.Bool.{false, cond}
+use mathlib.Core.List.{List, [], _∷_}
+use mathlib.Core.Logic.{_⊎_}
+use mathlib.Core.Path.{_≡_}
+use Prim.Native.Nat.{ℕ, _^_, _≤_, _<_}
+use lib.Dec.{eqb}
+use lib.Ieee.{Float}
+use lib.IntN.{ℤ, pos, negℤ, _+ℤ_}
+use lib.ListN.{length, getD, take}
+use lib.Signed.{ltZ}
+use Rattle.best_path.specs.Path.{passes, Ahead}
+use Rattle.f32s.specs.Whole.{Whole}
+use Rattle.trellis.specs.declared.ConvCode.{ConvCode}
+use Rattle.trellis.specs.Codeword.{stepsOf, zeroTailed, codeword}
+use Rattle.trellis.specs.Keep.{Keep, codedLength}
+use Rattle.readings.specs.Decode.{word, score}
+use Rattle.readings.specs.Wholes.{WholeReadings, absSum}
+
+-- 01's score: over the kept places the sum of the reading where the codeword has 0, and of its negative where it has 1. Missing readings are 0.
+unfoldable pub agreement : List ℕ → List ℤ → ℤ
+agreement [] zs = pos 0
+agreement (c ∷ cs) [] = pos 0
+agreement (c ∷ cs) (z ∷ zs) = cond (eqb c 0) z (negℤ z) +ℤ agreement cs zs
+
+-- an info word: so many bits
+pub record InfoWord (info : ℕ) (u : List ℕ) : Type 0 where
+  pub sized : length u ≡ info
+  pub bits : (i : ℕ) → getD u i 0 < 2
+
+-- The used readings are the whole numbers zs, and their absolute values sum to at most 2^24.
+pub record Exact (code : ConvCode) (p : Keep) (info : ℕ) (readings : List Float) (zs : List ℤ) : Type 0 where
+  pub whole : WholeReadings (take (codedLength p (stepsOf code info)) readings) zs
+  pub small : absSum zs ≤ 2 ^ 24
+
+-- Readings moved towards a codeword: not smaller where it has 0, and not larger where it has 1.
+pub record Towards (sent : List ℕ) (zs moved : List ℤ) : Type 0 where
+  pub at-zero : (i : ℕ) → i < length sent → getD sent i 0 ≡ 0 → ltZ (getD moved i (pos 0)) (getD zs i (pos 0)) ≡ false
+  pub at-one : (i : ℕ) → i < length sent → getD sent i 0 ≡ 1 → ltZ (getD zs i (pos 0)) (getD moved i (pos 0)) ≡ false
+
+module _ (code : ConvCode) (p : Keep) (info : ℕ) where
+  -- how well the codeword of an info word agrees with readings
+  abbrev pub scoreOf : List ℕ → List ℤ → ℤ
+  scoreOf u zs = agreement (codeword code p u) zs
+
+  -- the states that an info word passes through, last step first
+  abbrev pub statesOf : List ℕ → List ℕ
+  statesOf u = passes code (zeroTailed code u) (stepsOf code info)
+
+  pub record Claim (readings : List Float) (zs : List ℤ) : Type 0 where
+    pub is-word : InfoWord info (word code p readings info)
+    -- no equally long word's codeword agrees better
+    pub wins : (u : List ℕ) → InfoWord info u → ltZ (scoreOf (word code p readings info) zs) (scoreOf u zs) ≡ false
+    -- among equals it is the one that the tie rule puts first
+    pub first :
+        (u : List ℕ) → InfoWord info u → scoreOf u zs ≡ scoreOf (word code p readings info) zs →
+        (word code p readings info ≡ u) ⊎ Ahead (statesOf (word code p readings info)) (statesOf u)
+    -- the answer's score is that score
+    pub scored : Whole (score code p readings info) (scoreOf (word code p readings info) zs)
+    -- readings moved further towards the word leave it as it is
+    pub stays :
+        (others : List Float) (moved : List ℤ) → Exact code p info others moved → Towards (codeword code p (word code p readings info)) zs moved →
+        word code p others info ≡ word code p readings info
