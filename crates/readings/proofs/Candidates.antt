@@ -9,6 +9,13 @@ use Rattle.f32s.proofs.Ordered.{lt-trans}
 use Rattle.readings.specs.Sums.{mark, largest}
 use Rattle.readings.specs.Post.{chosen}
 
+-- a test's two outcomes
+pub where-larger : {A : Type 0} (z x : Float) (second first : A) → lt z x ≡ true → second ≡ cond (lt z x) second first
+where-larger z x second first e = rw e
+
+pub where-not-larger : {A : Type 0} (z x : Float) (second first : A) → lt z x ≡ false → first ≡ cond (lt z x) second first
+where-not-larger z x second first e = rw e
+
 nan-not-larger : (x c : Float) → lt x (add binary32 nan c) ≡ false
 unfolding lt add
 nan-not-larger nan c = refl

@@ -1,6 +1,6 @@
 -- Demand 3: the decoded word wins, first among equals, and it stays. For any code and keep pattern, and so for those that numbers select. Assumes nothing.
 use mathlib.Core.Bool.{true, false, true≢false}
-use mathlib.Core.List.{List, append-cancel-right}
+use mathlib.Core.List.{List, _++_, append-cancel-right}
 use mathlib.Core.Logic.{_⊎_, inl, inr, ⊎-elim}
 use mathlib.Core.Path.{_≡_, sym, ap, subst, _∙_}
 use Prim.Native.Nat.{ℕ, _<_}
@@ -8,7 +8,7 @@ use lib.Ieee.{Float}
 use lib.IntN.{ℤ, _+ℤ_, +ℤ-comm}
 use lib.ListN.{length, replicate}
 use lib.Signed.{ltZ}
-use Rattle.best_path.specs.Path.{Ahead}
+use Rattle.best_path.specs.Path.{Ahead, gained}
 use Rattle.best_path.proofs.InfoWords.{BestInfo, info-leads, best-info-word}
 use Rattle.best_path.proofs.Order.{AtMost, ltZ-total, ltZ-irrefl, at-most-not-below, at-most-antisym, at-most-rest, ahead-asym}
 use Rattle.f32s.specs.Whole.{Whole}
@@ -43,13 +43,16 @@ module _ (code : ConvCode) (some : 0 < code .width) (p : Keep) (good : Pattern p
     decoded-is-word : InfoWord info decoded
     decoded-is-word = record { sized = best-decoded .1 .sized; bits = best-decoded .1 .bits }
 
+    gained-points : (u : List ℕ) → InfoWord info u → gained code (wholeGain code p zs) (u ++ replicate (code .width) 0) (stepsOf code info) ≡ points u zs
+    gained-points = gained-codeword code some p good zs info
+
     decoded-beats :
         (u : List ℕ) → InfoWord info u →
         (ltZ (points u zs) (points decoded zs) ≡ true) ⊎ ((points u zs ≡ points decoded zs) × First decoded u)
     decoded-beats u is =
         rw (
-          ← gained-codeword code some p good zs info u is,
-          ← gained-codeword code some p good zs info decoded decoded-is-word,
+          ← gained-points u is,
+          ← gained-points decoded decoded-is-word,
           tailed-bits code u (is .bits),
           tailed-bits code decoded (decoded-is-word .bits),
         )
@@ -66,7 +69,7 @@ module _ (code : ConvCode) (some : 0 < code .width) (p : Keep) (good : Pattern p
     decoded-scored : Whole (score code p readings info) (points decoded zs)
     decoded-scored =
         subst (Whole (score code p readings info))
-        (sym (best-decoded .1 .best .gains-it) ∙ gained-codeword code some p good zs info decoded decoded-is-word)
+        (sym (best-decoded .1 .best .gains-it) ∙ gained-points decoded decoded-is-word)
         (score-whole code some p good readings zs info (exact .whole) (exact .small) (best-decoded .0) (best-decoded .1 .counted))
 
   -- After the move the two words tie, and so they did before it; each time the tie rule puts the same one first.
