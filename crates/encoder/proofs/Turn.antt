@@ -35,17 +35,25 @@ fronted-none old = record { place = refl; list = over-none old; size = refl }
 pub fronted-as : (front same old out : List ℕ) (at : ℕ) → front ≡ same → Fronted front old out at → Fronted same old out at
 fronted-as front same old out at e f = rw e at f
 
+-- a piece written at the place behind the front
+pub piece-adds :
+    (front old out new piece : List ℕ) (at next : ℕ) →
+    Fronted front old out at → next ≡ at + length piece → new ≡ over (take at out ++ piece) out → length new ≡ length out →
+    Fronted (front ++ piece) old new next
+piece-adds front old out new piece at next f g h z =
+    record {
+      place = g ∙ rw (f .place) (sym (length-append front piece));
+      list = h ∙ rw (f .list) (over-more front piece old at (f .place));
+      size = z ∙ f .size;
+    }
+
 -- one put: the bit v, which is w, is added where it is kept
 pub put-adds :
     (front old out new : List ℕ) (at next : ℕ) (kept : Bool) (v w : ℕ) →
     Fronted front old out at → v ≡ w → next ≡ at + length (onlyIf kept v) → new ≡ over (take at out ++ onlyIf kept v) out → length new ≡ length out →
     Fronted (front ++ onlyIf kept w) old new next
 put-adds front old out new at next kept v w f e g h z =
-    record {
-      place = g ∙ rw (e, f .place) (sym (length-append front (onlyIf kept w)));
-      list = h ∙ rw (e, f .list) (over-more front (onlyIf kept w) old at (f .place));
-      size = z ∙ f .size;
-    }
+    piece-adds front old out new (onlyIf kept w) at next f (rw e at g) (rw e at h) z
 
 -- step t, whose column is counted
 module _

@@ -124,7 +124,7 @@ length-traced code froms (suc t) s =
     length-append (traced largest code froms t (getD (froms t) s 0)) (inputInto largest code s ∷ [])
     ∙ omega (arith, length-traced code froms t (getD (froms t) s 0))
 
-length-word : (code : ConvCode) (p : Keep) (readings : List Float) (info : ℕ) → length (word code p readings info) ≡ info
+pub length-word : (code : ConvCode) (p : Keep) (readings : List Float) (info : ℕ) → length (word code p readings info) ≡ info
 unfolding word
 length-word code p readings info =
     let all = length-traced code (λ (t : ℕ). froms code p readings t) (stepsOf code info) 0 in

@@ -1,0 +1,6 @@
+-- Written: a text written piece by piece. Digits: a number's digits, the last first. Decoding: the line's answer is the decoder's. Example: document
+-- 01's example.
+pub mod Written
+pub mod Digits
+pub mod Decoding
+pub mod Example

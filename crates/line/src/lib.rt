@@ -1,0 +1,123 @@
+// The relay program's answer: from the bytes of its input to those of its output.
+ghost use mathlib.Core.Bool.{cond};
+ghost use mathlib.Core.List.{[]};
+ghost use mathlib.Core.Path.{_≡_};
+ghost use Prim.Native.Nat.{_≤_};
+ghost use lib.Dec.{ltb};
+ghost use lib.ListN.{length};
+ghost use Rattle.refusal.specs.Answer.{accepted, refused, wordSaid};
+ghost use Rattle.line.specs.Line.{shaped, lineOf, output};
+ghost use Rattle.line.specs.Post.{Holds, refusalIn};
+
+mod text;
+
+use refusal::Decoded;
+use refusal::Refusal;
+use text::put;
+use text::put_decimal;
+use text::put_hex;
+use text::put_word;
+
+// The most bytes of an input, and the most info bits that it may ask for.
+const MOST_BYTES: usize = 8192;
+
+const MOST_INFO: usize = 1000;
+
+// The survivors of as many info bits, for K7: 1,006 steps of 64 states.
+const SURVIVORS: usize = 64384;
+
+// A line stands at the front of its bytes, and zeros behind it. The longest has 1,021.
+pub struct Line {
+    pub bytes: [u8; 1024],
+    pub count: usize,
+}
+
+// 4 + 4k bytes, and no more than the most.
+fn is_shaped(n: usize) -> bool
+    ensures { λ r. ⌜ r ≡ shaped n ⌝ }
+{
+    if n < 4 {
+        return false;
+    }
+    if MOST_BYTES < n {
+        return false;
+    }
+    n % 4 == 0
+}
+
+// The info count to decode. Beyond the program's limit it is one that the decoder refuses too, in the
+// same order: so an unknown code or rate still comes first.
+fn asked(info: usize) -> usize
+    ensures { λ r. ⌜ r ≡ cond (ltb 1000 info) 4097 info ⌝ }
+{
+    if MOST_INFO < info {
+        refusal::MOST + 1
+    } else {
+        info
+    }
+}
+
+// The refusal in an answer that is not a word.
+fn refusal_in(answer: Decoded) -> Refusal
+    ensures { λ r. ⌜ refused (r .number) (r .place) ≡ refusalIn (wordSaid answer) ⌝ }
+{
+    match answer {
+        Decoded::Word(_) => Refusal {
+            number: 0,
+            place: 0,
+        },
+        Decoded::Refused(r) => r,
+    }
+}
+
+fn refused_line(r: Refusal) -> Line
+    ensures { λ l. ⌜ Holds (lineOf (refused (r .number) (r .place)) []) l ⌝ }
+{
+    let mut bytes = [0; 1024];
+    let number_at = put(&mut bytes[..], 0, b"refused ");
+    let at_at = put_decimal(&mut bytes[..], number_at, r.number as u32);
+    let place_at = put(&mut bytes[..], at_at, b" at ");
+    let end_at = put_decimal(&mut bytes[..], place_at, r.place);
+    let count = put(&mut bytes[..], end_at, b"\n");
+    Line { bytes, count }
+}
+
+fn word_line(word: &[u8], score: f32) -> Line
+    requires { ⌜ length (now word) ≤ 1000 ⌝ }
+    ensures { λ l. ⌜ Holds (lineOf (accepted score) (now (word .entry))) l ⌝ }
+{
+    let mut bytes = [0; 1024];
+    let word_at = put(&mut bytes[..], 0, b"word ");
+    let score_at = put_word(&mut bytes[..], word_at, word);
+    let bits_at = put(&mut bytes[..], score_at, b" score ");
+    let end_at = put_hex(&mut bytes[..], bits_at, f32s::bits_of(score));
+    let count = put(&mut bytes[..], end_at, b"\n");
+    Line { bytes, count }
+}
+
+// The whole output for an input.
+pub fn answer(input: &[u8]) -> Line
+    ensures { λ r. ⌜ Holds (output (now (input .entry))) r ⌝ }
+{
+    if !is_shaped(input.len()) {
+        return refused_line(Refusal {
+            number: 10,
+            place: 0,
+        });
+    }
+    let info = (input[2] as usize) + 256 * (input[3] as usize);
+    let mut word = [0; MOST_INFO];
+    let mut scratch = [0; SURVIVORS];
+    let decoded = readings::viterbi_decode_bytes(
+        input[0],
+        &input[4..],
+        asked(info),
+        input[1],
+        &mut word[..],
+        &mut scratch[..],
+    );
+    let Decoded::Word(score) = decoded else {
+        return refused_line(refusal_in(decoded));
+    };
+    word_line(&word[..info], score)
+}
