@@ -32,7 +32,14 @@ pub fn run() {
                 let (mut out, mut scratch) = (vec![0; size], vec![0; scratch_len(code, size)]);
                 let mut proved = || decode_into(code, rate, size, black_box(&readings), &mut out, &mut scratch);
                 let rust = || viterbi_decode_soft_with(oracle_code, black_box(&readings), size, oracle_rate);
-                let (ours, theirs) = medians(|| drop(black_box(proved())), || drop(black_box(rust())));
+                let (ours, theirs) = medians(
+                    || {
+                        let _ = black_box(proved());
+                    },
+                    || {
+                        black_box(rust());
+                    },
+                );
                 let name = format!("{code_name} {rate_name}");
                 assert!(out == rust(), "{name}: the words differ");
                 let (ours, theirs) = (ours / size as f64, theirs / size as f64);
