@@ -2,23 +2,17 @@
 use mathlib.Core.List.{[], _∷_}
 use mathlib.Core.Path.{_≡_, refl}
 use lib.Count.{ones}
-use lib.Ieee.{ofBits, toBits, add, sub, neg, lt, le}
-use Rattle.best_path.specs.Run.{stepFrom, metsAfter, survivors, traced}
-use Rattle.best_path.specs.Step.{relaxed, step}
+use lib.Ieee.{ofBits, toBits, sub, le}
 use Rattle.f32s.specs.Single.{allOfBytes}
-use Rattle.readings.specs.Decode.{mets, froms, word, score}
-use Rattle.readings.specs.Places.{place0, place1}
-use Rattle.readings.specs.Sums.{correlation, brings, gain}
 use Rattle.readings.specs.Used.{firstBad}
 use Rattle.trellis.specs.Choice.{codeOf, patternOf}
-use Rattle.trellis.specs.Keep.{keepsBy, onesOf, codedLength}
-use Rattle.trellis.specs.State.{parityOf, nextState}
-use Rattle.line.specs.Line.{lineSaid, wordIn, output}
-use Rattle.line.specs.Text.{hexDigits}
+use Rattle.trellis.specs.Keep.{keepsBy}
+use Rattle.trellis.specs.State.{nextState}
+use Rattle.line.specs.Line.{output}
 
 -- 00 00 01 00 00 00 80 BF give `word 1 score 3F800000` and a newline
 pub example :
     output (0 ∷ 0 ∷ 1 ∷ 0 ∷ 0 ∷ 0 ∷ 128 ∷ 191 ∷ [])
     ≡ 119 ∷ 111 ∷ 114 ∷ 100 ∷ 32 ∷ 49 ∷ 32 ∷ 115 ∷ 99 ∷ 111 ∷ 114 ∷ 101 ∷ 32 ∷ 51 ∷ 70 ∷ 56 ∷ 48 ∷ 48 ∷ 48 ∷ 48 ∷ 48 ∷ 10 ∷ []
-unfolding output allOfBytes firstBad codeOf patternOf keepsBy nextState relaxed step stepFrom metsAfter survivors traced mets froms word score ones ofBits toBits add sub neg lt le
+unfolding output allOfBytes firstBad codeOf patternOf keepsBy nextState ones ofBits toBits sub le
 example = refl

@@ -8,7 +8,7 @@ use lib.Dec.{lit≤}
 use lib.ListN.{length, getD, take, set, drop, replicate, length-append, length-drop, length-map}
 use lib.Seq.{paste, paste-suc, take-all, length-take-le}
 use Rattle.refusal.specs.Lent.{over}
-use Rattle.encoder.proofs.Turn.{Fronted}
+use Rattle.encoder.proofs.Turn.{Fronted, fronted-none, piece-adds}
 use Rattle.line.specs.declared.Line.{Line}
 use Rattle.line.specs.Post.{Holds}
 use Rattle.line.specs.Text.{bitText, wordText}
@@ -51,8 +51,22 @@ text-few (b ∷ bits) h = rw (length-map (b ∷ bits) bitText) h
 abbrev pub zeros : List ℕ
 zeros = replicate 1024 0
 
-pub holds : (text bytes : List ℕ) (count : ℕ) → Fronted text zeros bytes count → Holds text record { bytes = bytes; count = count }
-holds text bytes count f = record { count = f .place; bytes = f .list }
+-- what a call that writes a text tells: the next place, and the list, which keeps its length
+pub record Wrote (old : List ℕ) (at : ℕ) (text new : List ℕ) (next : ℕ) : Type 0 where
+  pub told : (next ≡ at + length text) × (new ≡ with-text old at text)
+  pub size : length new ≡ length old
+
+added : {front old out text new : List ℕ} {at next : ℕ} → Fronted front old out at → Wrote out at text new next → Fronted (front ++ text) old new next
+added {front} {old} {out} {text} {new} {at} {next} f w = piece-adds front old out new text at next f (w .told .0) (w .told .1) (w .size)
+
+-- a line has five texts
+pub five-texts :
+    (a b c d e : List ℕ) {u v w x y : List ℕ} {i j k l m : ℕ} →
+    Wrote zeros 0 a u i → Wrote u i b v j → Wrote v j c w k → Wrote w k d x l → Wrote x l e y m →
+    Holds ((((a ++ b) ++ c) ++ d) ++ e) record { bytes = y; count = m }
+five-texts a b c d e first second third fourth fifth =
+    let all = added (added (added (added (added (fronted-none zeros) first) second) third) fourth) fifth in
+    record { count = all .place; bytes = all .list }
 
 -- the line's text is within its bytes
 pub count-within : (text : List ℕ) (l : Line) → Holds text l → l .count ≤ length (l .bytes)

@@ -1,15 +1,13 @@
--- `line::word_line`: five pieces, each behind the one before. Assumes nothing.
-use mathlib.Core.List.{List, [], _++_}
+-- `line::word_line`: five texts, each behind the one before. Assumes nothing.
 use mathlib.Core.Path.{ap, _∙_}
 use Prim.Native.Nat.{ℕ, _+_}
 use native.Mathlib.Omega.{arith}
 use borrow.Author.Needs.{needs}
 use lib.Ieee.{binary32, toBits}
-use Rattle.encoder.proofs.Turn.{Fronted, fronted-none, piece-adds}
 use Rattle.line.specs.Line.{wordSpace, spaceScoreSpace, newline}
 use Rattle.line.specs.Text.{hexDigits, wordText}
 use Rattle.line.proofs.Digits.{eight}
-use Rattle.line.proofs.Written.{with-text, zeros, text-few, holds}
+use Rattle.line.proofs.Written.{with-text, text-few, five-texts}
 use Rattle.line.proofs.word_line.Statement.{statement}
 use Rattle.line.proofs.word_line.Tie as tie
 
@@ -34,30 +32,6 @@ slice-aggregate-put-3 c = search needs
 slice-aggregate-put-4 : tie.Need-slice-aggregate-put-4
 slice-aggregate-put-4 c = search needs
 
--- ---- what stands after each piece
-
-to-word : (c : tie.After-put) → Fronted wordSpace zeros (c .put .last .0) (c .put .result)
-to-word c = piece-adds [] zeros zeros _ wordSpace 0 _ (fronted-none zeros) (c .put .ensures .0) (c .put .ensures .1) (c .put .kept .0)
-
-abbrev worded : List ℕ → List ℕ
-worded word = wordSpace ++ wordText word
-
-to-score : (c : tie.After-put-word) → Fronted (worded (c .before .before .before .before .before .before .before .args .word .now)) zeros (c .put-word .last .0) (c .put-word .result)
-to-score c =
-    piece-adds wordSpace zeros _ _ (wordText (c .before .before .before .before .before .before .before .args .word .now)) _ _ (to-word (c .before .before .before)) (c .put-word .ensures .0) (c .put-word .ensures .1) (c .put-word .kept .0)
-
-to-bits : (c : tie.After-put2) → Fronted (worded (c .before .before .before .before .before .before .before .before .before .before .before .args .word .now) ++ spaceScoreSpace) zeros (c .put2 .last .0) (c .put2 .result)
-to-bits c =
-    piece-adds (worded (c .before .before .before .before .before .before .before .before .before .before .before .args .word .now)) zeros _ _ spaceScoreSpace _ _ (to-score (c .before .before .before .before)) (c .put2 .ensures .0) (c .put2 .ensures .1) (c .put2 .kept .0)
-
-to-end : (c : tie.After-put-hex) → Fronted ((worded (c .before .before .before .before .before .before .before .before .before .before .before .before .before .before .before .args .word .now) ++ spaceScoreSpace) ++ hexDigits 8 (toBits binary32 (c .before .before .before .before .before .before .before .before .before .before .before .before .before .before .before .args .score))) zeros (c .put-hex .last .0) (c .put-hex .result)
-to-end c =
-    let bits = toBits binary32 (c .before .before .before .before .before .before .before .before .before .before .before .before .before .before .before .args .score) in
-    piece-adds (worded (c .before .before .before .before .before .before .before .before .before .before .before .before .before .before .before .args .word .now) ++ spaceScoreSpace) zeros _ _ (hexDigits 8 bits) _ _ (to-bits (c .before .before .before .before))
-    (c .put-hex .ensures .0 ∙ ap (λ (n : ℕ). c .before .before .before .before .put2 .result + n) (eight bits))
-    (c .put-hex .ensures .1 ∙ ap (λ (n : ℕ). with-text (c .before .before .before .before .put2 .last .0) (c .before .before .before .before .put2 .result) (hexDigits 8 n)) (c .before .bits-of .ensures))
-    (c .put-hex .kept .0)
-
 put-requires-2 : tie.Need-put-requires-2
 put-requires-2 c κs = omega (arith, text-few (c .before .before .before .before .before .before .before .before .before .before .args .word .now) (c .before .before .before .before .before .before .before .before .before .before .pre))
 
@@ -81,9 +55,18 @@ put-requires-3 c κs = omega (arith, text-few (c .before .before .before .before
 
 returns : tie.Need-returns
 returns c =
-    let put = c .before .put3 in
     let args = c .before .before .before .before .before .before .before .before .before .before .before .before .before .before .before .before .before .before .before .before .args in
-    holds _ _ _ (piece-adds ((worded (args .word .now) ++ spaceScoreSpace) ++ hexDigits 8 (toBits binary32 (args .score))) zeros _ _ newline _ _ (to-end (c .before .before .before .before .before)) (put .ensures .0) (put .ensures .1) (put .kept .0))
+    let before = c .before .before .before .before .before .before .before .before .before .put2 in
+    let hex = c .before .before .before .before .before .put-hex in
+    let bits = toBits binary32 (args .score) in
+    let place = hex .ensures .0 ∙ ap (λ (n : ℕ). before .result + n) (eight bits) in
+    let list = hex .ensures .1 ∙ ap (λ (n : ℕ). with-text (before .last .0) (before .result) (hexDigits 8 n)) (c .before .before .before .before .before .before .bits-of .ensures) in
+    five-texts wordSpace (wordText (args .word .now)) spaceScoreSpace (hexDigits 8 bits) newline
+    record { told = c .before .before .before .before .before .before .before .before .before .before .before .before .before .before .before .before .put .ensures; size = c .before .before .before .before .before .before .before .before .before .before .before .before .before .before .before .before .put .kept .0 }
+    record { told = c .before .before .before .before .before .before .before .before .before .before .before .before .before .put-word .ensures; size = c .before .before .before .before .before .before .before .before .before .before .before .before .before .put-word .kept .0 }
+    record { told = c .before .before .before .before .before .before .before .before .before .put2 .ensures; size = c .before .before .before .before .before .before .before .before .before .put2 .kept .0 }
+    record { told = (place, list); size = hex .kept .0 }
+    record { told = c .before .put3 .ensures; size = c .before .put3 .kept .0 }
 
 pub word-line-spec : {M : Type 1} → statement M
 word-line-spec =
