@@ -1,7 +1,8 @@
 -- Visiting: the visiting order comes to the form by new state. Survivors: what later parts need of a step. Metrics: what every metric is. Stored: the
 -- butterfly's loop comes to the step. Order: the order of whole numbers, and of states. Words: paths an input at a time. Choice: which of two paths beats the other.
 -- BestPath: the way back is the best path. InfoWords: and from state 0 the best info word. Simulation: metrics that agree step by step have runs that
--- agree.
+-- agree. Rows: rows of survivors. Back: the way back over them. Candidates: two branches into a state, as a decoder compares them. Butterfly: the four
+-- branches of two states.
 pub mod Visiting
 pub mod Survivors
 pub mod Metrics
@@ -12,3 +13,7 @@ pub mod Choice
 pub mod BestPath
 pub mod InfoWords
 pub mod Simulation
+pub mod Rows
+pub mod Back
+pub mod Candidates
+pub mod Butterfly

@@ -1,6 +1,6 @@
 -- What the later parts need of a step: only the metrics of the code's states are read, and each survivor is a state. Assumes nothing.
 use mathlib.Core.Bool.{Bool, true, false, cond}
-use mathlib.Core.List.{List}
+use mathlib.Core.List.{List, [], _∷_}
 use mathlib.Core.Path.{_≡_, refl, sym, subst, _∙_}
 use Prim.Native.Nat.{ℕ, zero, suc, _+_, _-_, _*_, _/_, _%_, _^_, _≤_, _<_}
 use native.Mathlib.Nat.{add-comm, div-add-mod', div-lt-iff-lt-mul, mod-lt}
@@ -61,6 +61,18 @@ module _ {M B : Type 0} (op : Metric M B) (code : ConvCode) (p q : ℕ → M) (g
   pub step-same : step op code p gain ≡ step op code q gain
   unfolding step
   step-same = visits-same (2 ^ code .width) (omega arith)
+
+-- within a list the default is not seen
+pub any-default : {A : Type 0} (list : List A) (i : ℕ) (d e : A) → i < length list → getD list i d ≡ getD list i e
+any-default [] i d e h = absurd (omega (arith, h))
+any-default (x ∷ xs) zero d e h = refl
+any-default (x ∷ xs) (suc i) d e h = any-default xs i d e (omega arith)
+
+-- so a step may be taken from a list that holds the metrics, with any default
+pub step-held : {M B : Type 0} (op : Metric M B) (code : ConvCode) (mets : List M) (d : M) (gain : ℕ → ℕ → B) → 2 ^ code .width ≤ length mets → step op code (λ (s : ℕ). getD mets s d) gain ≡ stepFrom op code mets gain
+unfolding stepFrom
+step-held op code mets d gain room =
+    step-same op code (λ (s : ℕ). getD mets s d) (λ (s : ℕ). getD mets s (op .mark)) gain (λ s h. any-default mets s d (op .mark) (omega arith))
 
 -- ---- several steps
 

@@ -18,11 +18,13 @@ module _ {M B : Type 0} (op : Metric M B) where
   abbrev pub unreached : Cell M
   unreached = record { met = op .mark; from = 0 }
 
-  -- A branch from the state s of metric m, against the best so far: a state that is not reached is skipped; only a strictly better candidate
-  -- replaces.
+  -- a candidate x from the state s, against the best so far: only a strictly better one replaces
+  abbrev pub chosen : Cell M → M → ℕ → Cell M
+  chosen best x s = cond (op .better x (best .met)) (record { met = x; from = s }) best
+
+  -- A branch from the state s of metric m, against the best so far: a state that is not reached is skipped.
   unfoldable pub relaxed : Cell M → M → B → ℕ → Cell M
-  relaxed best m g s =
-      cond (op .reached m) (cond (op .better (op .add m g) (best .met)) (record { met = op .add m g; from = s }) best) best
+  relaxed best m g s = cond (op .reached m) (chosen best (op .add m g) s) best
 
   module _ (code : ConvCode) (old : ℕ → M) (gain : ℕ → ℕ → B) where
     -- ---- as it is visited

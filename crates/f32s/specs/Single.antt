@@ -1,14 +1,22 @@
--- One f32: is it finite, and the value of four bytes; and of many. Definitions only.
-use mathlib.Core.Bool.{Bool, true, false}
+-- One f32: is it finite, is it within ±1,024, and the value of four bytes; and of many. Definitions only.
+use mathlib.Core.Bool.{Bool, true, false, _&&_}
 use mathlib.Core.List.{List, [], _∷_}
 use Prim.Native.Nat.{ℕ, _+_, _*_}
-use lib.Ieee.{Float, nan, inf, fin, binary32, ofBits}
+use lib.Ieee.{Float, nan, inf, fin, binary32, ofBits, neg, le}
 
 -- neither NaN nor infinite
 abbrev pub finite : Float → Bool
 finite nan = false
 finite (inf s) = false
 finite (fin s m e) = true
+
+-- 1,024
+abbrev pub farthest : Float
+farthest = ofBits binary32 0x4480_0000
+
+-- neither NaN nor beyond ±1,024
+abbrev pub within : Float → Bool
+within x = le (neg farthest) x && le x farthest
 
 -- four bytes, low first, by their bits; every NaN pattern is the one NaN
 abbrev pub ofBytes : (b0 b1 b2 b3 : ℕ) → Float

@@ -4,7 +4,7 @@ ghost use mathlib.Core.Path.{_≡_};
 ghost use Prim.Native.Nat.{min};
 ghost use lib.Ieee.{binary32, toBits};
 ghost use lib.ListN.{length, take, drop};
-ghost use Rattle.f32s.specs.Single.{finite, ofBytes, allOfBytes};
+ghost use Rattle.f32s.specs.Single.{finite, within, ofBytes, allOfBytes};
 
 // Neither NaN nor infinite: a NaN is below nothing.
 pub fn is_finite(x: f32) -> bool
@@ -12,6 +12,13 @@ pub fn is_finite(x: f32) -> bool
 {
     let most = f32::from_bits(0x7f80_0000);
     (x < most) & (-most < x)
+}
+
+// Neither NaN nor beyond ±1,024: a NaN is on neither side of anything.
+pub fn within(x: f32) -> bool
+    ensures { λ r. ⌜ r ≡ within x ⌝ }
+{
+    (-1024.0 <= x) & (x <= 1024.0)
 }
 
 // The f32 of four bytes, low first.

@@ -1,15 +1,15 @@
 -- The refusals in their order, and which readings are used. Assumes nothing.
-use mathlib.Core.List.{List, [], _∷_, _++_}
+use mathlib.Core.List.{List, _++_}
 use mathlib.Core.Path.{_≡_, refl, sym, ap, _∙_}
-use Prim.Native.Nat.{ℕ, zero, suc, _+_, _*_, _^_, _≤_, _<_}
+use Prim.Native.Nat.{ℕ, _+_, _*_, _^_, _≤_, _<_}
 use native.Mathlib.Decide.{decLt}
 use native.Mathlib.Omega.{arith}
 use borrow.Author.Tests.{lt-ltb, le-ltb}
 use lib.Ieee.{Float}
-use lib.ListN.{length, getD, take, drop, length-append}
+use lib.ListN.{length, take, drop}
 use lib.Seq.{take-all, length-take-le}
 use Rattle.encoder.specs.Encode.{lengthOf}
-use Rattle.best_path.specs.Run.{traced, inputInto}
+use Rattle.best_path.proofs.Rows.{length-rows, length-traced}
 use Rattle.refusal.specs.Answer.{Said, accepted, refused}
 use Rattle.refusal.specs.Lent.{over, leaves}
 use Rattle.refusal.specs.Limits.{most}
@@ -24,7 +24,7 @@ use Rattle.readings.specs.Decode.{froms, word, score, filledRows}
 use Rattle.readings.specs.Post.{UsedOf}
 use Rattle.readings.specs.Said.{mostReadings, survivorsOf, decodeSaid}
 use Rattle.readings.specs.Sums.{largest}
-use Rattle.readings.proofs.Steps.{length-rows}
+use Rattle.readings.proofs.Steps.{rows-filled}
 use Rattle.readings.proofs.Selected.{code-width}
 
 -- ---- which readings are used
@@ -117,17 +117,10 @@ module _ (code rate info : ℕ) (readings : List Float) (room scratch : ℕ) whe
 
 -- ---- what is left
 
-length-traced : (code : ConvCode) (froms : ℕ → List ℕ) (t s : ℕ) → length (traced largest code froms t s) ≡ t
-unfolding traced
-length-traced code froms zero s = refl
-length-traced code froms (suc t) s =
-    length-append (traced largest code froms t (getD (froms t) s 0)) (inputInto largest code s ∷ [])
-    ∙ omega (arith, length-traced code froms t (getD (froms t) s 0))
-
 pub length-word : (code : ConvCode) (p : Keep) (readings : List Float) (info : ℕ) → length (word code p readings info) ≡ info
 unfolding word
 length-word code p readings info =
-    let all = length-traced code (λ (t : ℕ). froms code p readings t) (stepsOf code info) 0 in
+    let all = length-traced largest code (λ (t : ℕ). froms code p readings t) (stepsOf code info) 0 in
     length-take-le info _ (omega (arith, all))
 
 module _ (said : Said Float) (score : Float) (accepts : said ≡ accepted score) (code : ConvCode) (p : Keep) (readings : List Float) (info : ℕ) where
@@ -142,5 +135,5 @@ module _ (said : Said Float) (score : Float) (accepts : said ≡ accepted score)
       new ≡ leaves said (filledRows code p readings (stepsOf code info)) old
   unfolding over
   leaves-rows some new old e =
-      e ∙ ap (λ (n : ℕ). filledRows code p readings (stepsOf code info) ++ drop n old) (sym (length-rows code some p readings (stepsOf code info)))
+      e ∙ ap (λ (n : ℕ). filledRows code p readings (stepsOf code info) ++ drop n old) (sym (length-rows (rows-filled code some p readings (2 ^ code .width) refl) (stepsOf code info)))
       ∙ ap (λ (a : Said Float). leaves a (filledRows code p readings (stepsOf code info)) old) (sym accepts)

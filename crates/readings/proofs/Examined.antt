@@ -1,50 +1,9 @@
--- The first bad reading, found by looking at one after the other. Assumes nothing.
-use mathlib.Core.Bool.{Bool, true, false, cond, not}
-use mathlib.Core.List.{List, [], _∷_}
-use mathlib.Core.Path.{_≡_, refl, ap, sym, subst, _∙_}
-use Prim.Native.Nat.{ℕ, zero, suc, _+_, _≤_, _<_}
-use native.Mathlib.Omega.{arith}
-use lib.Dec.{T}
-use lib.Ieee.{Float, nan}
-use lib.ListN.{length, getD, drop, drop-of-length-le}
+-- `firstBad` is the index of the first reading that is NaN or infinite. Assumes nothing.
+use mathlib.Core.Path.{refl}
 use Rattle.f32s.specs.Single.{finite}
+use Rattle.refusal.proofs.FirstBad.{FirstBad}
 use Rattle.readings.specs.Used.{firstBad}
 
--- i places on, with those before it good
-unfoldable pub badFrom : ℕ → List Float → ℕ
+pub first-bad-is : FirstBad finite firstBad
 unfolding firstBad
-badFrom i xs = i + firstBad (drop i xs)
-
-pub bad-from-start : (xs : List Float) → firstBad xs ≡ badFrom 0 xs
-unfolding badFrom
-bad-from-start xs = omega arith
-
-next-is : (i : ℕ) (xs : List Float) → i < length xs → drop i xs ≡ getD xs i nan ∷ drop (suc i) xs
-next-is zero [] h = absurd (omega (arith, h))
-next-is (suc i) [] h = absurd (omega (arith, h))
-next-is zero (x ∷ xs) h = refl
-next-is (suc i) (x ∷ xs) h = next-is i xs (omega arith)
-
-module _ (i : ℕ) (xs : List Float) (h : i < length xs) where
-  look : (good : Bool) → good ≡ finite (getD xs i nan) → firstBad (drop i xs) ≡ cond good (suc (firstBad (drop (suc i) xs))) 0
-  unfolding firstBad
-  look good e = ap firstBad (next-is i xs h) ∙ ap (λ (b : Bool). cond b (suc (firstBad (drop (suc i) xs))) 0) (sym e)
-
-  pub bad-here : (good : Bool) → good ≡ finite (getD xs i nan) → not good ≡ true → badFrom i xs ≡ i
-  unfolding badFrom
-  bad-here true e bad = absurd (subst T (sym bad) tt)
-  bad-here false e bad = omega (arith, look false e)
-
-  pub bad-later : (good : Bool) → good ≡ finite (getD xs i nan) → not good ≡ false → badFrom i xs ≡ badFrom (i + 1) xs
-  unfolding badFrom
-  bad-later true e fine =
-      let next : suc i ≡ i + 1 = omega arith in
-      let one : i + firstBad (drop i xs) ≡ suc i + firstBad (drop (suc i) xs) = omega (arith, look true e) in
-      one ∙ ap (λ (j : ℕ). j + firstBad (drop j xs)) next
-  bad-later false e fine = absurd (subst T fine tt)
-
-pub bad-past : (i : ℕ) (xs : List Float) → i ≤ length xs → length xs ≤ i → badFrom i xs ≡ length xs
-unfolding badFrom firstBad
-bad-past i xs h k =
-    let none : firstBad (drop i xs) ≡ 0 = ap firstBad (drop-of-length-le xs k) in
-    omega (arith, none)
+first-bad-is = record { none = refl; more = λ x xs. refl }

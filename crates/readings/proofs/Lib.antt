@@ -4,13 +4,10 @@
 -- decoded word wins, and stays.
 pub mod Metrics
 pub mod Examined
-pub mod Candidates
 pub mod Sides
 pub mod Turn
-pub mod Even
 pub mod Reading
 pub mod Steps
-pub mod Back
 pub mod Rows
 pub mod Selected
 pub mod Answers

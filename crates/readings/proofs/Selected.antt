@@ -14,11 +14,10 @@ use Rattle.trellis.specs.declared.KeepPattern.{KeepPattern}
 use Rattle.trellis.specs.Choice.{codeOf, patternOf, heldOf, keepOf}
 use Rattle.trellis.specs.Codeword.{stepsOf}
 use Rattle.trellis.specs.Keep.{Keep}
-use Rattle.trellis.specs.Post.{Rows}
+use Rattle.trellis.specs.Post.{Rows, Halved}
 use Rattle.trellis.proofs.Chosen.{code-narrow, code-ends}
 use Rattle.trellis.proofs.States.{states-two-halves}
 use Rattle.readings.specs.Decode.{word, score, filledRows}
-use Rattle.readings.specs.Post.{Halved}
 use Rattle.readings.specs.Said.{survivorsOf}
 
 pub code-width : (n : ℕ) → codeOf n .width ≤ 6

@@ -1,18 +1,19 @@
 -- Steps one after the other: the metrics that the code holds agree with those after t steps, and the rows of survivors grow. Assumes nothing.
 use mathlib.Core.Bool.{Bool, true, false, cond}
-use mathlib.Core.List.{List, [], _∷_, _++_, map, append-assoc, append-nil}
-use mathlib.Core.Path.{_≡_, refl, sym, ap, ap₂, subst, _∙_}
-use Prim.Native.Nat.{ℕ, zero, suc, _+_, _-_, _*_, _%_, _^_, _≤_, _<_}
-use native.Mathlib.Nat.{suc-mul, mod-lt, mul-le-mul-right}
+use mathlib.Core.List.{List, _++_, map}
+use mathlib.Core.Path.{_≡_, refl, sym, ap, ap₂, _∙_}
+use Prim.Native.Nat.{ℕ, zero, suc, _+_, _-_, _%_, _^_, _≤_, _<_}
+use native.Mathlib.Nat.{mod-lt}
 use native.Mathlib.Numerals.{add-one}
 use native.Mathlib.Omega.{arith}
 use lib.Dec.{eqb}
 use lib.Ieee.{Float, nan}
-use lib.ListN.{length, getD, set, take, drop, replicate, getD-replicate, length-append, length-drop, drop-of-length-le, List·getD-append}
-use lib.Seq.{getD-set-other, take-all, take-at, drop-at, drop-drop}
+use lib.ListN.{length, getD, set, replicate, getD-replicate, List·getD-append}
+use lib.Seq.{getD-set-other}
 use Rattle.best_path.specs.Step.{Cell, step}
 use Rattle.best_path.specs.Run.{stepFrom, metsAfter, survivors}
-use Rattle.best_path.proofs.Survivors.{step-same, length-mets, length-survivors}
+use Rattle.best_path.proofs.Rows.{Filled}
+use Rattle.best_path.proofs.Survivors.{any-default, step-same, length-mets, length-survivors, survivor-below}
 use Rattle.trellis.specs.declared.ConvCode.{ConvCode}
 use Rattle.trellis.specs.declared.KeepPattern.{KeepPattern}
 use Rattle.trellis.specs.Choice.{keepOf}
@@ -24,16 +25,6 @@ use Rattle.readings.specs.Places.{zero32, valueOf, filled, place0, place
 use Rattle.readings.specs.Sums.{mark, largest, brings, gain, started}
 use Rattle.readings.specs.Decode.{mets, froms, filledRows}
 use Rattle.readings.specs.Post.{stepped, newMets, newFroms}
-
--- the row of a step that is still to come fits
-pub row-fits : (t steps width room : ℕ) → t < steps → steps * width ≤ room → t * width + width ≤ room
-row-fits t steps width room h fits = omega (arith, mul-le-mul-right width h, suc-mul t width)
-
--- within a list the default is not seen
-any-default : {A : Type 0} (list : List A) (i : ℕ) (d e : A) → i < length list → getD list i d ≡ getD list i e
-any-default [] i d e h = absurd (omega (arith, h))
-any-default (x ∷ xs) zero d e h = refl
-any-default (x ∷ xs) (suc i) d e h = any-default xs i d e (omega arith)
 
 -- the metrics as the code holds them, in an array that may be longer
 abbrev pub Agrees : ConvCode → Keep → List Float → List Float → ℕ → Type 0
@@ -75,46 +66,16 @@ module _ (code : ConvCode) (some : 0 < code .width) (p : Keep) (readings : List 
         ∙ any-default (mets code p readings (suc t)) s nan mark within
         ∙ ap (λ (n : ℕ). getD (mets code p readings n) s mark) (sym (add-one t))
 
-  pub length-rows : (t : ℕ) → length (filledRows code p readings t) ≡ t * states
-  unfolding filledRows froms
-  length-rows zero = omega arith
-  length-rows (suc t) =
-      length-append (filledRows code p readings t) (froms code p readings t)
-      ∙ omega (arith, length-rows t, length-survivors largest code some (gain code p readings) (started code) t, suc-mul t states)
-
-  pub rows-start : (width : ℕ) (old : List ℕ) → old ≡ filledRows code p readings 0 ++ drop (0 * width) old
-  unfolding filledRows
-  rows-start width old = let none : 0 ≡ 0 * width = omega arith in ap (λ (n : ℕ). drop n old) none
-
-  -- a row behind the rows: the part of the list from there on begins with it
-  rows-next :
-      (width : ℕ) → width ≡ states → (old list part : List ℕ) (at t : ℕ) → list ≡ filledRows code p readings t ++ drop (t * width) old →
-      at ≡ t * width → part ≡ froms code p readings t ++ drop states (drop at list) →
-      take at list ++ part ≡ filledRows code p readings (t + 1) ++ drop ((t + 1) * width) old
-  unfolding filledRows
-  rows-next width same old list part at t e f g =
-      let sized : length (filledRows code p readings t) ≡ at = length-rows t ∙ ap (λ (n : ℕ). t * n) (sym same) ∙ sym f in
-      let front : take at list ≡ filledRows code p readings t = ap (take at) e ∙ take-at (filledRows code p readings t) (drop (t * width) old) at sized in
-      let behind : drop at list ≡ drop (t * width) old = ap (drop at) e ∙ drop-at (filledRows code p readings t) (drop (t * width) old) at sized in
-      let further : t * width + width ≡ (t + 1) * width = sym (ap (λ (n : ℕ). n * width) (add-one t) ∙ suc-mul t width) in
-      let rest : drop states (drop at list) ≡ drop ((t + 1) * width) old =
-      ap₂ (λ (n : ℕ) (l : List ℕ). drop n l) (sym same) behind ∙ drop-drop width (t * width) old ∙ ap (λ (n : ℕ). drop n old) further in
-      ap₂ (λ (x y : List ℕ). x ++ y) front (g ∙ ap (λ (l : List ℕ). froms code p readings t ++ l) rest)
-      ∙ sym (append-assoc (filledRows code p readings t) (froms code p readings t) (drop ((t + 1) * width) old))
-      ∙ ap (λ (n : ℕ). filledRows code p readings n ++ drop ((t + 1) * width) old) (sym (add-one t))
-
-  -- the same as a call leaves it, which was lent the list from there on
-  pub rows-put :
-      (width : ℕ) → width ≡ states → (old list part : List ℕ) (at t : ℕ) → list ≡ filledRows code p readings t ++ drop (t * width) old →
-      at ≡ t * width → part ≡ froms code p readings t ++ drop states (take (length list - at) (drop at list)) →
-      take at list ++ (part ++ drop (length list - at) (drop at list)) ≡ filledRows code p readings (t + 1) ++ drop ((t + 1) * width) old
-  rows-put width same old list part at t e f g =
-      let all : length (drop at list) ≤ length list - at = omega (arith, length-drop at list) in
-      let none : part ++ drop (length list - at) (drop at list) ≡ part =
-      ap (λ (l : List ℕ). part ++ l) (drop-of-length-le (drop at list) all) ∙ append-nil part in
-      let lent : part ≡ froms code p readings t ++ drop states (drop at list) =
-      g ∙ ap (λ (l : List ℕ). froms code p readings t ++ drop states l) (take-all (length list - at) (drop at list) all) in
-      ap (λ (l : List ℕ). take at list ++ l) none ∙ rows-next width same old list part at t e f lent
+  -- a row of survivors for each step, all of them states
+  pub rows-filled : (width : ℕ) → width ≡ states → Filled width (froms code p readings) (filledRows code p readings)
+  unfolding froms filledRows
+  rows-filled width same =
+      rw same (record {
+        none = refl;
+        more = λ t. refl;
+        sized = length-survivors largest code some (gain code p readings) (started code);
+        below = survivor-below largest code some (gain code p readings) (started code);
+      })
 
 -- ---- which readings a step reads
 

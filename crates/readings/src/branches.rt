@@ -3,10 +3,10 @@ ghost use mathlib.Core.Bool.{cond};
 ghost use mathlib.Core.Path.{_≡_};
 ghost use Prim.Native.Nat.{_+_, _<_};
 ghost use lib.Dec.{eqb};
-ghost use lib.Ieee.{nan, neg, lt, le};
-ghost use Rattle.best_path.specs.Step.{unreached};
-ghost use Rattle.readings.specs.Post.{cellOf, chosen, Winged};
-ghost use Rattle.readings.specs.Sums.{largest, mark};
+ghost use lib.Ieee.{nan, neg, lt};
+ghost use Rattle.best_path.specs.Step.{unreached, chosen};
+ghost use Rattle.readings.specs.Post.{cellOf, Winged};
+ghost use Rattle.readings.specs.Sums.{largest};
 
 // f32::MIN / 2: at or below it a state was not reached.
 pub const MARK: f32 = -1.70141173e38;
@@ -20,7 +20,7 @@ pub struct Best {
 // A state's metric, or a NaN where it was not reached: a sum with that is a NaN too, which is never the
 // larger one. So a branch needs no test of its own, and the loop of a step is vectorised well.
 fn standing(m: f32) -> f32
-    ensures { λ r. ⌜ r ≡ cond (le m mark) nan m ⌝ }
+    ensures { λ r. ⌜ r ≡ cond (largest .reached m) m nan ⌝ }
 {
     if MARK < m { m } else { 0.0 / 0.0 }
 }
@@ -43,7 +43,7 @@ fn from_larger(z: f32, x: f32, s: u8) -> u8
 // The best way into a state: the candidate x0 comes from the state s, x1 from s + 1.
 fn best_of(x0: f32, x1: f32, s: u8) -> Best
     requires { ⌜ s < 255 ⌝ }
-    ensures { λ r. ⌜ cellOf r ≡ chosen (chosen (unreached largest) x0 s) x1 (s + 1) ⌝ }
+    ensures { λ r. ⌜ cellOf r ≡ chosen largest (chosen largest (unreached largest) x0 s) x1 (s + 1) ⌝ }
 {
     let z = larger(MARK, x0);
     let met = larger(z, x1);

@@ -7,10 +7,10 @@ ghost use lib.Dec.{eqb};
 ghost use lib.ListN.{length, getD, drop};
 ghost use Rattle.readings.specs.Decode.{mets, filledRows};
 ghost use Rattle.readings.specs.Places.{valueOf, filled};
-ghost use Rattle.readings.specs.Post.{Halved, Crossed, newMets, newFroms};
+ghost use Rattle.readings.specs.Post.{newMets, newFroms};
 ghost use Rattle.readings.specs.Sums.{mark};
 ghost use Rattle.trellis.specs.Choice.{keepOf};
-ghost use Rattle.trellis.specs.Post.{Rows};
+ghost use Rattle.trellis.specs.Post.{Rows, Halved, Crossed};
 use crate::branches::MARK;
 use crate::branches::butterfly;
 use crate::branches::signed;
@@ -54,27 +54,6 @@ fn step(
     }
 }
 
-// For each even state 2n the coded bits that it sends on the input 0.
-pub struct Sent {
-    pub c0: [u32; 32],
-    pub c1: [u32; 32],
-}
-
-fn sent_by_even(code: ConvCode, half: usize) -> Sent
-    requires { ⌜ Halved code half ⌝ }
-    ensures { λ r. ⌜ Crossed code half (r .c0) (r .c1) ⌝ }
-{
-    let mut c0 = [0; 32];
-    let mut c1 = [0; 32];
-    for n in 0..half {
-        let even = 2 * n;
-        let pair = trellis::branch_bits(code, even as u32, 0);
-        c0[n] = pair.c0 as u32;
-        c1[n] = pair.c1 as u32;
-    }
-    Sent { c0, c1 }
-}
-
 // The reading of a place: 0.0 where it was deleted or is missing.
 fn read(column: u8, readings: &[f32], at: usize) -> f32
     ensures { λ r. ⌜ r ≡ valueOf (filled (eqb column 1) (now (readings .entry)) at) ⌝ }
@@ -111,7 +90,7 @@ pub fn forward(
     ensures score { λ r. ⌜ r ≡ getD (mets code (keepOf keep) (now (readings .entry)) steps) 0 mark ⌝ }
     ensures survivors { λ _. ⌜ now (rows .exit) ≡ filledRows code (keepOf keep) (now (readings .entry)) steps ++ drop (steps * (2 * half)) (now (rows .entry)) ⌝ }
 {
-    let sent = sent_by_even(code, half);
+    let sent = trellis::sent_by_even(code, half);
     let c0 = sent.c0;
     let c1 = sent.c1;
     let period = keep.period;

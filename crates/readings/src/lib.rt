@@ -9,22 +9,20 @@ ghost use Rattle.refusal.specs.Answer.{wordSaid, refused};
 ghost use Rattle.refusal.specs.Lent.{leaves};
 ghost use Rattle.trellis.specs.Choice.{codeOf, patternOf, keepOf};
 ghost use Rattle.trellis.specs.Codeword.{stepsOf};
-ghost use Rattle.trellis.specs.Post.{Narrow, Rows};
+ghost use Rattle.trellis.specs.Post.{Narrow, Rows, Halved};
 ghost use Rattle.readings.specs.Decode.{word, score, filledRows};
-ghost use Rattle.readings.specs.Post.{Halved, UsedOf};
+ghost use Rattle.readings.specs.Post.{UsedOf};
 ghost use Rattle.readings.specs.Said.{survivorsOf, decodeSaid};
 ghost use Rattle.readings.specs.Used.{firstBad};
 
 mod branches;
 mod forward_pass;
-mod way_back;
 
 use forward_pass::forward;
 use refusal::Decoded;
 use refusal::Refusal;
 use trellis::ConvCode;
 use trellis::KeepPattern;
-use way_back::trace;
 
 // The index of the first reading that is NaN or infinite, and the length where none is.
 pub fn first_bad(readings: &[f32]) -> usize
@@ -62,7 +60,7 @@ fn decode(
 {
     let steps = info + code.width;
     let score = forward(code, half, keep, readings, steps, scratch);
-    trace(code, half, scratch, steps, info, out);
+    best_path::trace(code, half, scratch, steps, 0, info, out);
     score
 }
 

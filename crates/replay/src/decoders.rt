@@ -1,4 +1,4 @@
-// The case of the block decoder of readings.
+// The cases of the block decoders.
 use crate::MOST;
 use crate::encoders::Begun;
 use crate::encoders::Head;
@@ -12,6 +12,8 @@ use crate::fields::first;
 use crate::fields::number;
 use crate::fields::rest;
 use crate::fields::untouch;
+use refusal::Counted;
+use refusal::count_number;
 use refusal::word_number;
 
 // `b CC RR ANSWER COUNT READINGS OUT SCRATCH`: code, rate, the answer, the info count, the bytes of the
@@ -88,4 +90,86 @@ fn block_run(
         return Verdict::Differs;
     }
     compared(word_number(answer), head.answer, out, wanted)
+}
+
+// `s ANSWER SOFT OUT SCRATCH`: the answer, the bytes of the components, the whole output, the whole
+// scratch. `h ANSWER BITS OUT SCRATCH`: the same of hard bits.
+pub fn symbols_case(
+    hard: bool,
+    fields: &[u8],
+    given: &mut [u8],
+    wanted: &mut [u8],
+    out: &mut [u8],
+) -> Verdict {
+    let Value::Is(answer) = number(first(fields), 16) else {
+        return Verdict::Malformed;
+    };
+    let lists = rest(fields);
+    let n = count(first(lists));
+    let m = count(first(rest(lists)));
+    let k = count(rest(rest(lists)));
+    if n > given.len() || m > wanted.len() || m > out.len() || k > MOST {
+        return Verdict::Malformed;
+    }
+    let mut wanted_rows = [0u8; MOST];
+    let mut rows = [0u8; MOST];
+    symbols_lists(
+        hard,
+        answer,
+        lists,
+        &mut given[0..n],
+        &mut wanted[0..m],
+        &mut out[0..m],
+        &mut wanted_rows[0..k],
+        &mut rows[0..k],
+    )
+}
+
+// The same once the room is just what the lists need.
+fn symbols_lists(
+    hard: bool,
+    answer: u64,
+    lists: &[u8],
+    given: &mut [u8],
+    wanted: &mut [u8],
+    out: &mut [u8],
+    wanted_rows: &mut [u8],
+    rows: &mut [u8],
+) -> Verdict {
+    if fill_all(lists, given, wanted, wanted_rows) {
+        symbols_run(hard, answer, given, wanted, out, wanted_rows, rows)
+    } else {
+        Verdict::Malformed
+    }
+}
+
+fn symbols_run(
+    hard: bool,
+    answer: u64,
+    given: &[u8],
+    wanted: &[u8],
+    out: &mut [u8],
+    wanted_rows: &[u8],
+    rows: &mut [u8],
+) -> Verdict {
+    untouch(out);
+    untouch(rows);
+    let got = symbols_decoded(hard, given, out, rows);
+    if !check::same(rows, wanted_rows) {
+        return Verdict::Differs;
+    }
+    compared(count_number(got), answer, out, wanted)
+}
+
+// The components of one symbol more than a call may bring, and an odd one.
+const COMPONENTS: usize = 8195;
+
+// The call itself.
+fn symbols_decoded(hard: bool, given: &[u8], out: &mut [u8], rows: &mut [u8]) -> Counted {
+    if hard {
+        return symbols::viterbi_decode_hard(given, out, rows);
+    }
+    let mut soft = [0.0; COMPONENTS];
+    let n = f32s::from_all_bytes(given, &mut soft[..]);
+    symbols::viterbi_decode(&soft[..n], out, rows)
 }

@@ -21,8 +21,8 @@ use fields::rest;
 use libc::STDIN_FILENO;
 use libc::STDOUT_FILENO;
 
-// A line of which a list has more bytes than this is no case: an output for 4,096 bits needs 8,204.
-const MOST: usize = 16384;
+// A line of which a list has more bytes than this is no case: 4,096 symbols leave 65,536 survivors.
+const MOST: usize = 65552;
 
 // What has been counted so far. `lines` is also the number of the line last run.
 struct Tally {
@@ -72,6 +72,8 @@ fn verdict_of(line: &[u8], given: &mut [u8], wanted: &mut [u8], out: &mut [u8]) 
         b'p' => encoders::plain_case(fields, given, wanted, out),
         b'l' => encoders::length_case(fields),
         b'b' => decoders::block_case(fields, given, wanted, out),
+        b's' => decoders::symbols_case(false, fields, given, wanted, out),
+        b'h' => decoders::symbols_case(true, fields, given, wanted, out),
         b'v' => words::word_case(fields),
         b'd' => words::lookup_case(fields, wanted),
         b'w' => queues::writer_case(fields),
@@ -247,7 +249,7 @@ fn read_all(text: &mut [u8]) -> Reading
 }
 
 fn main() {
-    let mut space = [0u8; 131072];
+    let mut space = [0u8; 262144];
     let r = read_all(&mut space);
     let mut t = r.tally;
     if r.more {

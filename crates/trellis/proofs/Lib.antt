@@ -1,8 +1,9 @@
--- Cells: the register as a number. States: what steps do to states. Ends: what a tap word's end bits do. Kept: how many places are kept. Sent: what is sent.
+-- Cells: the register as a number. States: what steps do to states. Ends: what a tap word's end bits do. Even: the coded bits of the even states. Kept: how many places are kept. Sent: what is sent.
 -- Columns: a keep pattern as the code holds it. Chosen: what holds of every code and pattern that a number selects.
 pub mod Cells
 pub mod States
 pub mod Ends
+pub mod Even
 pub mod Kept
 pub mod Columns
 pub mod Sent

@@ -1,7 +1,8 @@
 -- What the functions on one step ask and ensure, part by part. Definitions only.
+use mathlib.Core.List.{List}
 use mathlib.Core.Path.{_≡_}
-use Prim.Native.Nat.{ℕ, _*_, _%_, _^_, _≤_, _<_}
-use lib.ListN.{length}
+use Prim.Native.Nat.{ℕ, _-_, _*_, _%_, _^_, _≤_, _<_}
+use lib.ListN.{length, getD}
 use Rattle.trellis.specs.declared.ConvCode.{ConvCode}
 use Rattle.trellis.specs.declared.KeepPattern.{KeepPattern}
 use Rattle.trellis.specs.declared.Pair.{Pair}
@@ -30,6 +31,22 @@ pub record Ends (code : ConvCode) : Type 0 where
   pub top1 : 2 ^ code .width ≤ code .g1
   pub within0 : code .g0 < 2 * 2 ^ code .width
   pub within1 : code .g1 < 2 * 2 ^ code .width
+
+-- A code of at most 64 states, twice half of them, whose tap words have their end bits set.
+pub record Halved (code : ConvCode) (half : ℕ) : Type 0 where
+  pub held : Narrow code
+  pub few : half ≤ 32
+  pub halved : half ≡ 2 ^ (code .width - 1)
+  pub ends : Ends code
+
+-- The same, and for each even state 2n the coded bits that it sends on the input 0.
+pub record Crossed (code : ConvCode) (half : ℕ) (c0 c1 : List ℕ) : Type 0 where
+  pub some : 0 < code .width
+  pub few : half ≤ 32
+  pub halved : half ≡ 2 ^ (code .width - 1)
+  pub ends : Ends code
+  pub first : (n : ℕ) → n < half → getD c0 n 0 ≡ parityOf (code .g0) (window code (2 * n) 0)
+  pub second : (n : ℕ) → n < half → getD c1 n 0 ≡ parityOf (code .g1) (window code (2 * n) 0)
 
 -- a keep pattern as the code holds it: at least one column counts, and each row has those that count
 pub record Rows (m : KeepPattern) : Type 0 where

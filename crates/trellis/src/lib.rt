@@ -5,7 +5,7 @@ ghost use lib.ListN.{take};
 ghost use Rattle.trellis.specs.Choice.{codeOf, patternOf, heldOf, keepOf};
 ghost use Rattle.trellis.specs.Keep.{onesOf, codedLength};
 ghost use Rattle.trellis.specs.State.{window, parityOf, nextState};
-ghost use Rattle.trellis.specs.Post.{Taken, Branched, Rows};
+ghost use Rattle.trellis.specs.Post.{Taken, Branched, Rows, Halved, Crossed};
 
 // A code: the register's width K - 1, and the tap words over the window of K bits, whose top bit
 // is the input.
@@ -124,6 +124,29 @@ pub fn branch_bits(code: ConvCode, s: u32, b: u32) -> Pair
         c0: parity(w, code.g0),
         c1: parity(w, code.g1),
     }
+}
+
+// For each even state 2n the coded bits that it sends on the input 0. By the tap words' end bits these
+// tell the others: the state 2n + 1 sends the opposite pair on the same input, and so does 2n on the
+// input 1.
+pub struct Planes {
+    pub c0: [u32; 32],
+    pub c1: [u32; 32],
+}
+
+pub fn sent_by_even(code: ConvCode, half: usize) -> Planes
+    requires { ⌜ Halved code half ⌝ }
+    ensures { λ r. ⌜ Crossed code half (r .c0) (r .c1) ⌝ }
+{
+    let mut c0 = [0; 32];
+    let mut c1 = [0; 32];
+    for n in 0..half {
+        let even = 2 * n;
+        let pair = branch_bits(code, even as u32, 0);
+        c0[n] = pair.c0 as u32;
+        c1[n] = pair.c1 as u32;
+    }
+    Planes { c0, c1 }
 }
 
 // The state after s on the input b: the window without its lowest bit.

@@ -8,6 +8,7 @@ mod groups;
 mod lent;
 mod program;
 mod replay;
+mod symbols;
 mod varicode;
 
 use expected::Random;
@@ -24,6 +25,7 @@ fn main() -> ExitCode {
     encoder::run(&mut groups, random);
     decoder::run(&mut groups, random);
     varicode::run(&mut groups, random);
+    symbols::run(&mut groups, random);
     program::run(&mut groups, random);
     groups.finish()
 }

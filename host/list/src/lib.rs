@@ -1,6 +1,7 @@
-//! How the lines of a list are written: its fields, and the cases of the decoder and of Varicode with what is expected
+//! How the lines of a list are written: its fields, and the cases of the decoders and of Varicode with what is expected
 //! of them.
 
 pub mod decoder;
 pub mod line;
+pub mod symbols;
 pub mod varicode;

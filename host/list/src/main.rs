@@ -16,4 +16,5 @@ fn main() {
     stored::encoder::print(random);
     stored::varicode::print(random);
     stored::decoder::print(random);
+    stored::symbols::print(random);
 }

@@ -6,7 +6,7 @@ use borrow.Author.Needs.{needs}
 use lib.ListN.{drop}
 use Rattle.trellis.specs.Choice.{keepOf}
 use Rattle.readings.specs.Decode.{score}
-use Rattle.readings.proofs.Rows.{left-traceable, left-word}
+use Rattle.readings.proofs.Rows.{word-traceable, word-traced}
 use Rattle.readings.proofs.decode.Statement.{statement}
 use Rattle.readings.proofs.decode.Tie as tie
 
@@ -19,7 +19,7 @@ forward-requires c κs = search needs
 trace-requires : tie.Need-trace-requires
 trace-requires c κs =
     let start = c .before .before .before .before .before .before .before .before .before .before in
-    left-traceable (start .args .code) (start .args .half) (keepOf (start .args .keep)) (start .args .readings .now) (start .args .info) _ _ (start .pre .0) (c .before .before .before .before .forward .ensures .1) _ (start .pre .1 .1 .1 .0)
+    word-traceable (start .args .code) (start .args .half) (keepOf (start .args .keep)) (start .args .readings .now) (start .args .info) _ _ (start .pre .0) (c .before .before .before .before .forward .ensures .1) _ (start .pre .1 .1 .1 .0)
 
 same-length : tie.Need-same-length
 same-length c = search needs
@@ -36,7 +36,7 @@ returns c =
       (
         c .before .before .trace .ensures
             ∙ ap (λ (l : List ℕ). l ++ drop (start .args .info) (start .args .out .now))
-            (left-word (start .args .code) (start .args .half) (keepOf (start .args .keep)) (start .args .readings .now) (start .args .info) _ _ (start .pre .0) (forward .1)),
+            (word-traced (start .args .code) (start .args .half) (keepOf (start .args .keep)) (start .args .readings .now) (start .args .info) _ _ (start .pre .0) (forward .1)),
         forward .1,
       ),
     )

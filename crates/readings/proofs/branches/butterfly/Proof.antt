@@ -1,6 +1,10 @@
 -- `readings::branches::butterfly`: two branches for each of the two new states. Assumes nothing.
 use borrow.Author.Needs.{needs}
-use Rattle.readings.proofs.Candidates.{both-relaxed}
+use mathlib.Core.Bool.{false}
+use mathlib.Core.Path.{_≡_, refl}
+use lib.Ieee.{Float, nan, inf, fin, binary32, add, lt}
+use Rattle.best_path.proofs.Candidates.{both-relaxed}
+use Rattle.readings.specs.Sums.{largest}
 use Rattle.readings.proofs.branches.butterfly.Statement.{statement}
 use Rattle.readings.proofs.branches.butterfly.Tie as tie
 
@@ -16,13 +20,19 @@ best-of-requires c κs = search needs
 best-of-requires-2 : tie.Need-best-of-requires-2
 best-of-requires-2 c κs = search needs
 
+nan-not-larger : (x c : Float) → lt x (add binary32 nan c) ≡ false
+unfolding lt add
+nan-not-larger nan c = refl
+nan-not-larger (inf s) c = refl
+nan-not-larger (fin s m e) c = refl
+
 returns : tie.Need-returns
 returns c =
     let even = c .before .before .before .standing .ensures in
     let odd = c .before .before .standing2 .ensures in
     record {
-      low = both-relaxed _ _ _ _ _ _ _ _ _ even odd (c .before .best-of .ensures);
-      high = both-relaxed _ _ _ _ _ _ _ _ _ even odd (c .best-of2 .ensures);
+      low = both-relaxed largest nan nan-not-larger _ _ _ _ _ _ _ _ _ even odd (c .before .best-of .ensures);
+      high = both-relaxed largest nan nan-not-larger _ _ _ _ _ _ _ _ _ even odd (c .best-of2 .ensures);
     }
 
 pub butterfly-spec : {M : Type 1} → statement M

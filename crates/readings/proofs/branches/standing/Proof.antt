@@ -3,11 +3,11 @@ use mathlib.Core.Bool.{false, cond}
 use mathlib.Core.Path.{_≡_, refl}
 use lib.Ieee.{Float, nan, inf, fin, ofBits, div, lt, le, isNan}
 use Rattle.f32s.proofs.Ordered.{lt-not-le, not-lt-le}
-use Rattle.readings.specs.Sums.{mark}
+use Rattle.readings.specs.Sums.{mark, largest}
 use Rattle.readings.proofs.branches.standing.Statement.{statement}
 use Rattle.readings.proofs.branches.standing.Tie as tie
 
-not-above : (m : Float) → lt mark m ≡ false → nan ≡ cond (le m mark) nan m
+not-above : (m : Float) → lt mark m ≡ false → nan ≡ cond (largest .reached m) m nan
 unfolding isNan ofBits le
 not-above nan e = refl
 not-above (inf s) e = rw (not-lt-le mark (inf s) refl refl e)

@@ -1,7 +1,7 @@
 -- `readings::forward_pass::forward`. The invariant: after t steps the metrics agree with the definition's, the rows below t are filled, and column and at are t's.
 -- Assumes nothing.
 use mathlib.Core.List.{List, _++_}
-use mathlib.Core.Path.{_≡_, refl, sym, ap, _∙_}
+use mathlib.Core.Path.{_≡_, refl, sym, ap, ap₂, _∙_}
 use Prim.Native.Nat.{ℕ, _+_, _-_, _*_, _%_, _^_, _≤_, _<_}
 use native.Mathlib.Nat.{le-trans, mod-eq-of-lt, suc-mul, mul-le-mul-right}
 use native.Mathlib.Numerals.{add-one}
@@ -11,6 +11,7 @@ use lib.Dec.{eqb}
 use lib.Ieee.{Float}
 use lib.ListN.{length, getD, take, drop, length-take, length-drop}
 use lib.Pow.{pow-pos}
+use Rattle.best_path.proofs.Rows.{row-fits, rows-start, rows-put}
 use Rattle.trellis.specs.declared.ConvCode.{ConvCode}
 use Rattle.trellis.specs.declared.KeepPattern.{KeepPattern}
 use Rattle.trellis.specs.Choice.{keepOf}
@@ -20,7 +21,7 @@ use Rattle.trellis.proofs.Columns.{column-next}
 use Rattle.trellis.proofs.States.{states-two-halves}
 use Rattle.readings.specs.Sums.{mark}
 use Rattle.readings.specs.Decode.{mets, filledRows}
-use Rattle.readings.proofs.Steps.{Agrees, agrees-start, agrees-next, new-froms, rows-start, rows-put, row-fits, none-coded, one-at-most, column-below, column-within, reads-few, reads-place0, reads-place1, counts-both}
+use Rattle.readings.proofs.Steps.{Agrees, agrees-start, agrees-next, new-froms, rows-filled, none-coded, one-at-most, column-below, column-within, reads-few, reads-place0, reads-place1, counts-both}
 use Rattle.readings.proofs.forward_pass.forward.Statement.{statement}
 use Rattle.readings.proofs.forward_pass.forward.Tie as tie
 
@@ -55,7 +56,7 @@ loop-holds c =
       omega arith,
       refl,
       agrees-start (start .args .code) (start .pre .0 .held .some) _ _ (omega (arith, states-two-halves (start .args .code) (start .pre .0 .held .some), start .pre .0 .halved, start .pre .0 .few)),
-      rows-start (start .args .code) (start .pre .0 .held .some) (keepOf (start .args .keep)) (start .args .readings .now) (2 * start .args .half) (start .args .rows .now),
+      rows-start (rows-filled (start .args .code) (start .pre .0 .held .some) (keepOf (start .args .keep)) (start .args .readings .now) (2 * start .args .half) (omega (arith, states-two-halves (start .args .code) (start .pre .0 .held .some), start .pre .0 .halved))) (start .args .rows .now),
     )
 
 -- what is known at the loop's head
@@ -162,8 +163,8 @@ loop-again c =
       omega (arith, loop .inv .3, add-one (loop .t), suc-mul (loop .t) (2 * start head .args .half)),
       c .before .before .rows .given .1 ∙ loop .inv .4,
       agrees-next (code head) (some head) (keepOf (keep head)) (readings head) (loop .pm) _ _ (loop .t) (loop .inv .5) reads reads2 _ _ (c .before .before .before .step .ensures .0),
-      rows-put (code head) (some head) (keepOf (keep head)) (readings head) (2 * start head .args .half) (two head) (start head .args .rows .now) (loop .rows) _ (loop .to) (loop .t) (loop .inv .6) (loop .inv .3)
-          (c .before .before .before .step .ensures .1 ∙ ap (λ (l : List ℕ). l ++ drop (2 ^ code head .width) (take (length (loop .rows) - loop .to) (drop (loop .to) (loop .rows)))) (new-froms (code head) (some head) (keepOf (keep head)) (readings head) (loop .pm) _ _ (loop .t) (loop .inv .5) reads reads2)),
+      rows-put (rows-filled (code head) (some head) (keepOf (keep head)) (readings head) (2 * start head .args .half) (two head)) (start head .args .rows .now) (loop .rows) _ (loop .to) (loop .t) (loop .inv .6) (loop .inv .3)
+          (c .before .before .before .step .ensures .1 ∙ ap₂ (λ (l : List ℕ) (n : ℕ). l ++ drop n (take (length (loop .rows) - loop .to) (drop (loop .to) (loop .rows)))) (new-froms (code head) (some head) (keepOf (keep head)) (readings head) (loop .pm) _ _ (loop .t) (loop .inv .5) reads reads2) (sym (two head))),
     )
 
 array-read-result : tie.Need-array-read-result Inv-loop μ-loop

@@ -1,0 +1,125 @@
+-- What the costs and the metrics of symbols can come to where every component is within ±1,024: a cost is from 0 up to 257 * 2 ^ 13, a metric after t
+-- symbols is the mark or from 0 up to t times that. So a metric is reached where it is not the mark, and then it is below it. Assumes nothing.
+use mathlib.Core.Bool.{true, false, not, true≢false}
+use mathlib.Core.List.{List}
+use mathlib.Core.Logic.{_⊎_, inl, inr}
+use mathlib.Core.Path.{_≡_, refl, sym, ap, _∙_}
+use Prim.Native.Nat.{ℕ, zero, suc, _+_, _-_, _*_, _^_, _≤_, _<_, zero-le}
+use native.Mathlib.Nat.{lt-of-le-of-lt, mul-le-mul-right}
+use native.Mathlib.Omega.{arith}
+use lib.Dec.{lit<, lit≤}
+use lib.Ieee.{Float, nan, binary32, ofBits, neg, lt, le}
+use lib.ListN.{getD, getD-replicate}
+use Rattle.best_path.proofs.Metrics.{metric-kept}
+use Rattle.f32s.specs.Bounded.{Between, UpTo}
+use Rattle.f32s.specs.Single.{within}
+use Rattle.f32s.proofs.Bounded.{sum-up-to, difference-square-up-to, wider-between, lt-mark}
+use Rattle.f32s.proofs.Ordered.{lt-not-le}
+use Rattle.refusal.specs.Limits.{most}
+use Rattle.trellis.specs.declared.ConvCode.{ConvCode}
+use Rattle.trellis.specs.State.{window, parityOf}
+use Rattle.symbols.specs.declared.phasors.Phasor.{Phasor}
+use Rattle.symbols.specs.Costs.{zero32, one32, phasors, phasorOf, cost, costs, mark, smallest, started}
+use Rattle.symbols.specs.Decode.{symbolCosts, mets}
+
+-- ---- a cost
+
+-- each component is from -1 up to 1
+record Near (at : Phasor) : Type 0 where
+  re-near : Between 1 1 0 (at .re)
+  im-near : Between 1 1 0 (at .im)
+
+phasor-near : (c0 c1 : ℕ) → Near (phasorOf c0 c1)
+unfolding ofBits neg
+phasor-near c0 c1 = go (2 * c0 + c1)
+  where
+    nil : Between 1 1 0 zero32
+    nil = record { lies = zero-le }
+
+    one : Between 1 1 0 one32
+    one = record { lies = lit≤ tt }
+
+    minus-one : Between 1 1 0 (neg one32)
+    minus-one = record { lies = lit≤ tt }
+
+    go : (i : ℕ) → Near (getD phasors i (record { re = one32; im = zero32 }))
+    go zero = record { re-near = one; im-near = nil }
+    go (suc zero) = record { re-near = nil; im-near = minus-one }
+    go (suc (suc zero)) = record { re-near = nil; im-near = one }
+    go (suc (suc (suc zero))) = record { re-near = minus-one; im-near = nil }
+    go (suc (suc (suc (suc i)))) = record { re-near = one; im-near = nil }
+
+module _ (re im : Float) (re-in : within re ≡ true) (im-in : within im ≡ true) where
+  -- two squares of at most 1,025 * 1,025 each
+  near-cost : (at : Phasor) → Near at → UpTo 257 13 (cost re im at)
+  unfolding cost
+  near-cost at near =
+      wider-between (sum-up-to binary32 0 (lit≤ tt) (difference-square-up-to re re-in (near .re-near)) (difference-square-up-to im im-in (near .im-near)) (lit≤ tt)) zero-le (lit≤ tt)
+
+  pub cost-bounded : (c0 c1 : ℕ) → UpTo 257 13 (cost re im (phasorOf c0 c1))
+  cost-bounded c0 c1 = near-cost (phasorOf c0 c1) (phasor-near c0 c1)
+
+  pub branch-bounded : (code : ConvCode) (s i : ℕ) → UpTo 257 13 (costs code re im s i)
+  unfolding costs
+  branch-bounded code s i = cost-bounded (parityOf (code .g0) (window code s i)) (parityOf (code .g1) (window code s i))
+
+-- ---- the mark, or a number far below it
+
+abbrev pub MarkOrUpTo : ℕ → Float → Type 0
+MarkOrUpTo q m = (m ≡ mark) ⊎ UpTo q 13 m
+
+pub mark-unreached : smallest .reached mark ≡ false
+unfolding ofBits le
+mark-unreached = refl
+
+pub up-to-below : {q : ℕ} {m : Float} → q ≤ 2 ^ 24 → UpTo q 13 m → lt m mark ≡ true
+up-to-below few u = lt-mark u (lt-of-le-of-lt (mul-le-mul-right (2 ^ 13) few) (lit< tt))
+
+pub reached-up-to : {q : ℕ} {m : Float} → MarkOrUpTo q m → smallest .reached m ≡ true → UpTo q 13 m
+reached-up-to (inl e) r = absurd (true≢false (sym r ∙ ap (λ (x : Float). not (le mark x)) e ∙ mark-unreached))
+reached-up-to (inr u) r = u
+
+pub unreached-mark : {q : ℕ} {m : Float} → q ≤ 2 ^ 24 → MarkOrUpTo q m → smallest .reached m ≡ false → m ≡ mark
+unreached-mark few (inl e) r = e
+unreached-mark {q} {m} few (inr u) r = absurd (true≢false (sym (ap not (lt-not-le m mark (up-to-below few u))) ∙ r))
+
+-- ---- the metrics
+
+-- the limit of symbols keeps the bound of few digits
+pub limit-few : (n : ℕ) → n ≤ most → 257 * n ≤ 2 ^ 24
+limit-few n h = omega arith
+
+-- the metric of the state s after t symbols
+abbrev pub metricAt : ConvCode → List Float → ℕ → ℕ → Float
+metricAt code soft t s = getD (mets code soft t) s mark
+
+started-bounded : (code : ConvCode) (s : ℕ) → s < 2 ^ code .width → MarkOrUpTo 0 (getD (started code) s mark)
+started-bounded code zero h = inr (unfold ofBits in record { lies = zero-le })
+started-bounded code (suc s) h = inl (getD-replicate (2 ^ code .width - 1) s mark mark (omega arith))
+
+module _ (code : ConvCode) (some : 0 < code .width) (soft : List Float) (n : ℕ) (few : 257 * n ≤ 2 ^ 24) (all-within : (i : ℕ) → i < 2 * n → within (getD soft i nan) ≡ true) where
+  abbrev Bounded : ℕ → Float → Type 0
+  Bounded t m = t ≤ n → MarkOrUpTo (257 * t) m
+
+  winner-bounded : (t s i : ℕ) (m y : Float) → Bounded t m → smallest .reached m ≡ true → smallest .better (smallest .add m (symbolCosts code soft t s i)) y ≡ true → Bounded (suc t) (smallest .add m (symbolCosts code soft t s i))
+  unfolding symbolCosts
+  winner-bounded t s i m y h r b l =
+      let more : 257 * suc t ≡ 257 * t + 257 = omega arith in
+      inr
+      (rw more
+      (sum-up-to binary32 13 (lit≤ tt) (reached-up-to (h (omega arith)) r)
+      (branch-bounded (getD soft (2 * t) nan) (getD soft (2 * t + 1) nan) (all-within (2 * t) (omega arith)) (all-within (2 * t + 1) (omega arith)) code s i)
+      (omega arith)))
+
+  pub metrics-bounded : (t s : ℕ) → t ≤ n → s < 2 ^ code .width → MarkOrUpTo (257 * t) (metricAt code soft t s)
+  unfolding mets
+  metrics-bounded t s l h =
+      metric-kept smallest code some (symbolCosts code soft) Bounded (λ t l. inl refl) winner-bounded (started code)
+      (λ s h l. started-bounded code s h) t s h l
+
+  pub reached-below-mark : (t s : ℕ) → t ≤ n → s < 2 ^ code .width → smallest .reached (metricAt code soft t s) ≡ true → lt (metricAt code soft t s) mark ≡ true
+  reached-below-mark t s l h r = up-to-below (omega arith) (reached-up-to (metrics-bounded t s l h) r)
+
+  pub unreached-iff-mark : (t s : ℕ) → t ≤ n → s < 2 ^ code .width → (smallest .reached (metricAt code soft t s) ≡ false → metricAt code soft t s ≡ mark) × (metricAt code soft t s ≡ mark → smallest .reached (metricAt code soft t s) ≡ false)
+  unreached-iff-mark t s l h =
+      (unreached-mark (omega arith) (metrics-bounded t s l h), λ e. ap (λ (m : Float). not (le mark m)) e ∙ mark-unreached)

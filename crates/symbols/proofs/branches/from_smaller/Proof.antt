@@ -1,0 +1,16 @@
+-- `symbols::branches::from_smaller`, by its test. Assumes nothing.
+use borrow.Author.Needs.{needs}
+use Rattle.symbols.proofs.branches.from_smaller.Statement.{statement}
+use Rattle.symbols.proofs.branches.from_smaller.Tie as tie
+
+add-result : tie.Need-add-result
+add-result c = search needs
+
+returns : tie.Need-returns
+returns c = rw (c .if1 .taken)
+
+returns-2 : tie.Need-returns-2
+returns-2 c = rw (c .if1 .left)
+
+pub from-smaller-spec : {M : Type 1} → statement M
+from-smaller-spec = tie.close (tie.spec add-result returns returns-2)

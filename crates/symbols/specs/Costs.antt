@@ -1,0 +1,57 @@
+-- The phasor table, and what a branch costs in f32, each operation rounded once. Definitions only.
+use mathlib.Core.Bool.{not}
+use mathlib.Core.List.{List, [], _∷_}
+use Prim.Native.Nat.{ℕ, _+_, _-_, _*_, _^_}
+use lib.Ieee.{Float, binary32, ofBits, neg, add, sub, mul, lt, le}
+use lib.ListN.{getD, replicate}
+use Rattle.best_path.specs.Metric.{Metric}
+use Rattle.trellis.specs.declared.ConvCode.{ConvCode}
+use Rattle.trellis.specs.State.{window, parityOf}
+use Rattle.symbols.specs.declared.phasors.Phasor.{Phasor}
+
+abbrev pub zero32 : Float
+zero32 = ofBits binary32 0
+
+abbrev pub one32 : Float
+one32 = ofBits binary32 0x3f80_0000
+
+-- (1,0), (0,-1), (0,1), (-1,0)
+abbrev pub phasors : List Phasor
+phasors =
+    record { re = one32; im = zero32 }
+    ∷ record { re = zero32; im = neg one32 }
+    ∷ record { re = zero32; im = one32 }
+    ∷ record { re = neg one32; im = zero32 }
+    ∷ []
+
+-- indexed by twice the first coded bit plus the second
+abbrev pub phasorOf : (c0 c1 : ℕ) → Phasor
+phasorOf c0 c1 = getD phasors (2 * c0 + c1) (record { re = one32; im = zero32 })
+
+-- (re-e)·(re-e) + (im-f)·(im-f)
+unfoldable pub cost : Float → Float → Phasor → Float
+cost re im at =
+    add binary32 (mul binary32 (sub binary32 re (at .re)) (sub binary32 re (at .re))) (mul binary32 (sub binary32 im (at .im)) (sub binary32 im (at .im)))
+
+-- what the branch from the state s on the input i costs, where a symbol reads re and im
+unfoldable pub costs : ConvCode → Float → Float → ℕ → ℕ → Float
+unfolding cost parityOf
+costs code re im s i = cost re im (phasorOf (parityOf (code .g0) (window code s i)) (parityOf (code .g1) (window code s i)))
+
+-- the mark of a state that is not reached: f32::MAX / 2
+abbrev pub mark : Float
+mark = ofBits binary32 0x7eff_ffff
+
+-- A state at or above the mark is skipped; only a strictly smaller candidate replaces.
+abbrev pub smallest : Metric Float Float
+smallest =
+    record {
+      mark = mark;
+      reached = λ (m : Float). not (le mark m);
+      add = λ (m c : Float). add binary32 m c;
+      better = λ (x y : Float). lt x y;
+    }
+
+-- State 0 starts at 0.0; the others are unreachable.
+abbrev pub started : ConvCode → List Float
+started code = zero32 ∷ replicate (2 ^ code .width - 1) mark

@@ -1,0 +1,46 @@
+// The phasor table, and what a branch costs.
+ghost use mathlib.Core.Path.{_≡_};
+ghost use Rattle.symbols.specs.Costs.{cost};
+ghost use Rattle.symbols.specs.Post.{Priced};
+
+// A point of the constellation.
+pub struct Phasor {
+    pub re: f32,
+    pub im: f32,
+}
+
+// Indexed by twice the first coded bit plus the second.
+pub const PHASORS: [Phasor; 4] = [
+    Phasor { re: 1.0, im: 0.0 },
+    Phasor { re: 0.0, im: -1.0 },
+    Phasor { re: 0.0, im: 1.0 },
+    Phasor { re: -1.0, im: 0.0 },
+];
+
+// How far a symbol is from a phasor, squared.
+fn cost(re: f32, im: f32, at: Phasor) -> f32
+    ensures { λ r. ⌜ r ≡ cost re im at ⌝ }
+{
+    let x = re - at.re;
+    let y = im - at.im;
+    x * x + y * y
+}
+
+// What a symbol costs at each phasor, by the coded pair.
+pub struct Prices {
+    pub of_00: f32,
+    pub of_01: f32,
+    pub of_10: f32,
+    pub of_11: f32,
+}
+
+pub fn prices_of(re: f32, im: f32) -> Prices
+    ensures { λ r. ⌜ Priced re im r ⌝ }
+{
+    Prices {
+        of_00: cost(re, im, PHASORS[0]),
+        of_01: cost(re, im, PHASORS[1]),
+        of_10: cost(re, im, PHASORS[2]),
+        of_11: cost(re, im, PHASORS[3]),
+    }
+}
