@@ -4,7 +4,7 @@ use mathlib.Core.List.{List, [], _∷_, _++_, append-assoc}
 use mathlib.Core.Path.{_≡_, refl, sym, ap, subst, _∙_}
 use Prim.Native.Nat.{ℕ, zero, suc, _+_, _-_, _*_, _/_, _≤_, _<_}
 use native.Mathlib.Decide.{le-ind, decLt}
-use native.Mathlib.Nat.{suc-mul, mul-le-mul-right, div-eq-of-lt}
+use native.Mathlib.Nat.{suc-mul, div-eq-of-lt}
 use native.Mathlib.Omega.{arith}
 use borrow.Author.Tests.{lt-ltb, le-ltb}
 use lib.Arith.{digits-lt, digits-div}
@@ -26,18 +26,18 @@ unfoldable pub left : ℕ → List ℕ → ℕ → ℕ → ℕ → List ℕ → 
 left half rows info zero s out = out
 left half rows info (suc i) s out = left half rows info i (getD rows (i * (2 * half) + s) 0) (cond (ltb i info) (set out i (topBit half s)) out)
 
--- the numbers of a turn: the row before i lies within the rows, and so does the state's byte in it
-pub record Turn (w t i at s : ℕ) : Type 0 where
-  pub within : w ≤ at
-  pub start : at - w ≡ (i - 1) * w
-  pub below : at - w + s < t * w
+-- i rows end at `at`, so the last of them begins a width before it
+pub last-row-begins : (i at width : ℕ) → 0 < i → at ≡ i * width → at ≡ (i - 1) * width + width
+last-row-begins i at width some e =
+    let one-more : i ≡ suc (i - 1) = omega arith in
+    e ∙ ap (λ (j : ℕ). j * width) one-more ∙ suc-mul (i - 1) width
 
-pub turn : (w t i at s : ℕ) → 0 < i → i ≤ t → at ≡ i * w → s < w → Turn w t i at s
-turn w t i at s h l e k =
-    let back : suc (i - 1) ≡ i = omega arith in
-    let row : i * w ≡ (i - 1) * w + w = ap (λ (j : ℕ). j * w) (sym back) ∙ suc-mul (i - 1) w in
-    let all : i * w ≤ t * w = mul-le-mul-right w l in
-    record { within = omega arith; start = omega arith; below = omega arith }
+-- and what it holds of a state lies among the rows of all steps
+pub last-row-holds :
+    (i at width steps s : ℕ) → 0 < i → at ≡ i * width → i ≤ steps → s < width → at - width + s < steps * width
+last-row-holds i at width steps s some e within state =
+    let among : (i - 1) * width + s < steps * width = digits-lt (omega arith) state in
+    omega (arith, last-row-begins i at width some e)
 
 drop-set-same : (out : List ℕ) (i v : ℕ) → i < length out → drop i (set out i v) ≡ v ∷ drop (suc i) out
 drop-set-same out i v h =

@@ -20,6 +20,10 @@ use Rattle.best_path.proofs.Simulation.{traced-same}
 pub row-fits : (t steps width room : ℕ) → t < steps → steps * width ≤ room → t * width + width ≤ room
 row-fits t steps width room h fits = omega (arith, mul-le-mul-right width h, suc-mul t width)
 
+-- where the next row begins
+pub row-next : (at t width : ℕ) → at ≡ t * width → at + width ≡ (t + 1) * width
+row-next at t width e = omega (arith, e, suc-mul t width, add-one t)
+
 -- how many inputs the way back has
 pub length-traced : {M B : Type 0} (op : Metric M B) (code : ConvCode) (froms : ℕ → List ℕ) (t s : ℕ) → length (traced op code froms t s) ≡ t
 unfolding traced

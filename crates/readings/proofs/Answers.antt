@@ -9,7 +9,7 @@ use lib.Ieee.{Float}
 use lib.ListN.{length, take, drop}
 use lib.Seq.{take-all, length-take-le}
 use Rattle.encoder.specs.Encode.{lengthOf}
-use Rattle.best_path.proofs.Rows.{length-rows, length-traced}
+use Rattle.best_path.proofs.Rows.{length-rows}
 use Rattle.refusal.specs.Answer.{Said, accepted, refused}
 use Rattle.refusal.specs.Lent.{over, leaves}
 use Rattle.refusal.specs.Limits.{most}
@@ -20,10 +20,10 @@ use Rattle.trellis.specs.Keep.{Keep}
 use Rattle.trellis.proofs.Chosen.{rate-pattern}
 use Rattle.trellis.proofs.Kept.{coded-le}
 use Rattle.readings.specs.Used.{firstBad}
-use Rattle.readings.specs.Decode.{froms, word, score, filledRows}
+use Rattle.readings.specs.Decode.{word, score, filledRows}
 use Rattle.readings.specs.Post.{UsedOf}
 use Rattle.readings.specs.Said.{mostReadings, survivorsOf, decodeSaid}
-use Rattle.readings.specs.Sums.{largest}
+use Rattle.readings.proofs.Rows.{length-word}
 use Rattle.readings.proofs.Steps.{rows-filled}
 use Rattle.readings.proofs.Selected.{code-width}
 
@@ -116,12 +116,6 @@ module _ (code rate info : ℕ) (readings : List Float) (room scratch : ℕ) whe
                 )
 
 -- ---- what is left
-
-pub length-word : (code : ConvCode) (p : Keep) (readings : List Float) (info : ℕ) → length (word code p readings info) ≡ info
-unfolding word
-length-word code p readings info =
-    let all = length-traced largest code (λ (t : ℕ). froms code p readings t) (stepsOf code info) 0 in
-    length-take-le info _ (omega (arith, all))
 
 module _ (said : Said Float) (score : Float) (accepts : said ≡ accepted score) (code : ConvCode) (p : Keep) (readings : List Float) (info : ℕ) where
   pub leaves-word : (new old : List ℕ) → new ≡ word code p readings info ++ drop info old → new ≡ leaves said (word code p readings info) old

@@ -1,23 +1,33 @@
--- The way back over the rows that all steps leave is the definition's. Assumes nothing.
+-- The way back over the rows that all steps leave: it can be walked from any state, and from state 0 it spells the word. Assumes nothing.
 use mathlib.Core.List.{List, _++_}
-use mathlib.Core.Path.{_≡_, refl, ap}
-use Prim.Native.Nat.{ℕ, _+_, _*_, _^_, _≤_}
+use mathlib.Core.Path.{_≡_, refl, ap, _∙_}
+use Prim.Native.Nat.{ℕ, _+_, _*_, _^_, _≤_, _<_}
 use native.Mathlib.Omega.{arith}
 use lib.Ieee.{Float}
-use lib.ListN.{take}
-use lib.Pow.{pow-pos}
+use lib.ListN.{length, take}
+use lib.Seq.{length-take-le}
 use Rattle.best_path.specs.Path.{wholes}
 use Rattle.best_path.specs.Rows.{rowOf, Traceable}
 use Rattle.best_path.specs.Run.{traced}
-use Rattle.best_path.proofs.Rows.{left-traceable, left-way-back}
+use Rattle.best_path.proofs.Rows.{length-traced, left-traceable, left-way-back}
 use Rattle.trellis.specs.declared.ConvCode.{ConvCode}
 use Rattle.trellis.specs.Codeword.{stepsOf}
 use Rattle.trellis.specs.Keep.{Keep}
 use Rattle.trellis.specs.Post.{Halved}
 use Rattle.trellis.proofs.States.{states-two-halves}
 use Rattle.readings.specs.Sums.{largest}
-use Rattle.readings.specs.Decode.{word, filledRows}
+use Rattle.readings.specs.Decode.{froms, word, filledRows}
 use Rattle.readings.proofs.Steps.{rows-filled}
+
+-- a word has as many bits as it is asked for, from whatever state the way back starts
+length-from :
+    (code : ConvCode) (p : Keep) (readings : List Float) (info s : ℕ) →
+    length (take info (traced largest code (froms code p readings) (stepsOf code info) s)) ≡ info
+length-from code p readings info s = length-take-le info _ (omega (arith, length-traced largest code (froms code p readings) (stepsOf code info) s))
+
+pub length-word : (code : ConvCode) (p : Keep) (readings : List Float) (info : ℕ) → length (word code p readings info) ≡ info
+unfolding word
+length-word code p readings info = length-from code p readings info _
 
 module _
     (code : ConvCode) (half : ℕ) (p : Keep) (readings : List Float) (info : ℕ) (list rest : List ℕ) (shape : Halved code half)
@@ -25,13 +35,20 @@ module _
   two : 2 * half ≡ 2 ^ code .width
   two = omega (arith, states-two-halves code (shape .held .some), shape .halved)
 
-  pub word-traceable : (room : ℕ) → info ≤ room → Traceable code half list (stepsOf code info) 0 info room
-  word-traceable room fits =
-      left-traceable (rows-filled code (shape .held .some) p readings (2 * half) two) code half (stepsOf code info) list rest refl (shape .halved) (shape .few) left 0 info room
-      (omega (arith, two, pow-pos (code .width))) (omega arith) fits
+  pub word-traceable : (last room : ℕ) → last < 2 * half → info ≤ room → Traceable code half list (stepsOf code info) last info room
+  word-traceable last room state fits =
+      left-traceable (rows-filled code (shape .held .some) p readings (2 * half) two) code half (stepsOf code info) list rest refl (shape .halved) (shape .few) left last info room
+      state (omega arith) fits
 
-  pub word-traced : take info (traced wholes code (rowOf (2 * half) list) (stepsOf code info) 0) ≡ word code p readings info
-  unfolding word
-  word-traced =
+  -- from the same state the rows spell what the definition's survivors do
+  spelled :
+      (last s : ℕ) → last ≡ s →
+      take info (traced wholes code (rowOf (2 * half) list) (stepsOf code info) last) ≡ take info (traced largest code (froms code p readings) (stepsOf code info) s)
+  spelled last s same =
       ap (take info)
-      (left-way-back (rows-filled code (shape .held .some) p readings (2 * half) two) code half (stepsOf code info) list rest refl (shape .halved) (shape .few) left largest 0)
+      (left-way-back (rows-filled code (shape .held .some) p readings (2 * half) two) code half (stepsOf code info) list rest refl (shape .halved) (shape .few) left largest last
+      ∙ ap (traced largest code (froms code p readings) (stepsOf code info)) same)
+
+  pub word-traced : (last : ℕ) → last ≡ 0 → take info (traced wholes code (rowOf (2 * half) list) (stepsOf code info) last) ≡ word code p readings info
+  unfolding word
+  word-traced last zeroth = spelled last _ (omega (arith, zeroth))

@@ -42,7 +42,9 @@ module _ (m : KeepPattern) (rows : Rows m) where
   unfolding codedLength keepOf
   coded-columns t =
       let begun : t % n ≤ n = omega (arith, mod-lt t (rows .some)) in
-      rw (length-take-le n (m .row0) (rows .room0), take-take (t % n) n (m .row0) begun, take-take (t % n) n (m .row1) begun)
+      let whole = onesOf (take n (m .row0)) + onesOf (take n (m .row1)) in
+      ap (λ (k : ℕ). t / k * whole + (onesOf (take (t % k) (take n (m .row0))) + onesOf (take (t % k) (take n (m .row1))))) (length-take-le n (m .row0) (rows .room0))
+      ∙ ap₂ (λ (x y : ℕ). t / n * whole + (x + y)) (ap onesOf (take-take (t % n) n (m .row0) begun)) (ap onesOf (take-take (t % n) n (m .row1) begun))
 
 -- a counter of columns that goes round is the step mod the period
 pub column-next : (n t column next : ℕ) → column ≡ t % n → next ≡ (column + 1) % n → next ≡ (t + 1) % n

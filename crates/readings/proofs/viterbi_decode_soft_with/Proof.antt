@@ -1,5 +1,5 @@
 -- `readings::viterbi_decode_soft_with`: the refusals in their order, then the decoding. Assumes nothing.
-use mathlib.Core.Path.{_≡_, sym, ap, _∙_}
+use mathlib.Core.Path.{_≡_, refl, sym, ap, _∙_}
 use native.Mathlib.Omega.{arith}
 use borrow.Author.Needs.{needs}
 use lib.ListN.{length}
@@ -16,36 +16,36 @@ no-word-requires c κs = search needs
 
 returns : tie.Need-returns
 returns c =
-    let start = c .before .before .before .before .before in
-    let said = no-code (start .args .code) (start .args .rate) (start .args .info) (start .args .readings .now) (length (start .args .out .now)) (length (start .args .scratch .now)) (c .before .if1 .taken) in
-    (c .no-word .ensures ∙ sym said, (rw said, rw said))
+    let start : tie.Start = search needs in
+    let said = no-code (start .args .code) (start .args .rate) (start .args .info) (start .args .readings .now) (length (start .args .out .now)) (length (start .args .scratch .now)) (omega arith) in
+    (c .no-word .ensures ∙ sym said, (rw said refl, rw said refl))
 
 no-word-requires-2 : tie.Need-no-word-requires-2
 no-word-requires-2 c κs = search needs
 
 returns-2 : tie.Need-returns-2
 returns-2 c =
-    let start = c .before .before .before .before .before .before in
-    let said = no-rate (start .args .code) (start .args .rate) (start .args .info) (start .args .readings .now) (length (start .args .out .now)) (length (start .args .scratch .now)) (c .before .before .if1 .left) (c .before .if2 .taken) in
-    (c .no-word2 .ensures ∙ sym said, (rw said, rw said))
+    let start : tie.Start = search needs in
+    let said = no-rate (start .args .code) (start .args .rate) (start .args .info) (start .args .readings .now) (length (start .args .out .now)) (length (start .args .scratch .now)) (omega arith) (omega arith) in
+    (c .no-word2 .ensures ∙ sym said, (rw said refl, rw said refl))
 
 no-word-requires-3 : tie.Need-no-word-requires-3
 no-word-requires-3 c κs = search needs
 
 returns-3 : tie.Need-returns-3
 returns-3 c =
-    let start = c .before .before .before .before .before .before .before in
-    let said = too-many (start .args .code) (start .args .rate) (start .args .info) (start .args .readings .now) (length (start .args .out .now)) (length (start .args .scratch .now)) (c .before .before .before .if1 .left) (c .before .before .if2 .left) (c .before .if3 .taken) in
-    (c .no-word3 .ensures ∙ sym said, (rw said, rw said))
+    let start : tie.Start = search needs in
+    let said = too-many (start .args .code) (start .args .rate) (start .args .info) (start .args .readings .now) (length (start .args .out .now)) (length (start .args .scratch .now)) (omega arith) (omega arith) (omega arith) in
+    (c .no-word3 .ensures ∙ sym said, (rw said refl, rw said refl))
 
 no-word-requires-4 : tie.Need-no-word-requires-4
 no-word-requires-4 c κs = search needs
 
 returns-4 : tie.Need-returns-4
 returns-4 c =
-    let start = c .before .before .before .before .before .before .before .before in
-    let said = no-room (start .args .code) (start .args .rate) (start .args .info) (start .args .readings .now) (length (start .args .out .now)) (length (start .args .scratch .now)) (c .before .before .before .before .if1 .left) (c .before .before .before .if2 .left) (c .before .before .if3 .left) (c .before .if4 .taken) in
-    (c .no-word4 .ensures ∙ sym said, (rw said, rw said))
+    let start : tie.Start = search needs in
+    let said = no-room (start .args .code) (start .args .rate) (start .args .info) (start .args .readings .now) (length (start .args .out .now)) (length (start .args .scratch .now)) (omega arith) (omega arith) (omega arith) (omega arith) in
+    (c .no-word4 .ensures ∙ sym said, (rw said refl, rw said refl))
 
 survivors-of-requires : tie.Need-survivors-of-requires
 survivors-of-requires c κs = search needs
@@ -55,15 +55,17 @@ no-word-requires-5 c κs = search needs
 
 returns-5 : tie.Need-returns-5
 returns-5 c =
-    let start = c .before .before .before .before .before .before .before .before .before .before in
-    let said = no-scratch (start .args .code) (start .args .rate) (start .args .info) (start .args .readings .now) (length (start .args .out .now)) (length (start .args .scratch .now)) (c .before .before .before .before .before .before .if1 .left) (c .before .before .before .before .before .if2 .left) (c .before .before .before .before .if3 .left) (c .before .before .before .if4 .left) (omega (arith, c .before .before .survivors-of .ensures, c .before .if5 .taken)) in
-    (c .no-word5 .ensures ∙ sym said, (rw said, rw said))
+    let start : tie.Start = search needs in
+    let said = no-scratch (start .args .code) (start .args .rate) (start .args .info) (start .args .readings .now) (length (start .args .out .now)) (length (start .args .scratch .now)) (omega arith) (omega arith) (omega arith) (omega arith) (omega arith) in
+    (c .no-word5 .ensures ∙ sym said, (rw said refl, rw said refl))
 
 used-of-requires : tie.Need-used-of-requires
 used-of-requires c κs = search needs
 
 slice-aggregate-first-bad : tie.Need-slice-aggregate-first-bad
-slice-aggregate-first-bad c = sym (length-take-le _ _ (used-within _ _ (c .before .before .before .before .before .before .before .before .before .before .before .args .readings .now) (c .before .used-of .ensures)))
+slice-aggregate-first-bad c =
+    let start : tie.Start = search needs in
+    sym (length-take-le _ _ (used-within _ _ (start .args .readings .now) (c .before .used-of .ensures)))
 
 first-bad-requires : tie.Need-first-bad-requires
 first-bad-requires c κs = search needs
@@ -76,9 +78,11 @@ no-word-requires-6 c κs = search needs
 
 returns-6 : tie.Need-returns-6
 returns-6 c =
-    let start = c .before .before .before .before .before .before .before .before .before .before .before .before .before .before in
-    let said = bad-reading (start .args .code) (start .args .rate) (start .args .info) (start .args .readings .now) (length (start .args .out .now)) (length (start .args .scratch .now)) (c .before .before .before .before .before .before .before .before .before .before .if1 .left) (c .before .before .before .before .before .before .before .before .before .if2 .left) (c .before .before .before .before .before .before .before .before .if3 .left) (c .before .before .before .before .before .before .before .if4 .left) (omega (arith, c .before .before .before .before .before .before .survivors-of .ensures, c .before .before .before .before .before .if5 .left)) _ _ (c .before .before .before .before .used-of .ensures) (c .before .before .first-bad .ensures) (c .before .if6 .taken) in
-    (c .no-word6 .ensures ∙ sym said, (rw said, rw said))
+    let start : tie.Start = search needs in
+    let counted : tie.After-used-of = search needs in
+    let examined : tie.After-first-bad = search needs in
+    let said = bad-reading (start .args .code) (start .args .rate) (start .args .info) (start .args .readings .now) (length (start .args .out .now)) (length (start .args .scratch .now)) (omega arith) (omega arith) (omega arith) (omega arith) (omega arith) _ _ (counted .used-of .ensures) (examined .first-bad .ensures) (omega arith) in
+    (c .no-word6 .ensures ∙ sym said, (rw said refl, rw said refl))
 
 decode-at-requires : tie.Need-decode-at-requires
 decode-at-requires c κs = search needs
@@ -91,9 +95,12 @@ same-length-2 c = search needs
 
 returns-7 : tie.Need-returns-7
 returns-7 c =
-    let start = c .before .before .before .before .before .before .before .before .before .before .before .before .before .before .before .before .before .before .before .before in
-    let decoded = c .before .before .before .before .decode-at .ensures in
-    let said = good-readings (start .args .code) (start .args .rate) (start .args .info) (start .args .readings .now) (length (start .args .out .now)) (length (start .args .scratch .now)) (c .before .before .before .before .before .before .before .before .before .before .before .before .before .before .before .before .if1 .left) (c .before .before .before .before .before .before .before .before .before .before .before .before .before .before .before .if2 .left) (c .before .before .before .before .before .before .before .before .before .before .before .before .before .before .if3 .left) (c .before .before .before .before .before .before .before .before .before .before .before .before .before .if4 .left) (omega (arith, c .before .before .before .before .before .before .before .before .before .before .before .before .survivors-of .ensures, c .before .before .before .before .before .before .before .before .before .before .before .if5 .left)) _ _ (c .before .before .before .before .before .before .before .before .before .before .used-of .ensures) (c .before .before .before .before .before .before .before .before .first-bad .ensures) (c .before .before .before .before .before .before .before .if6 .left) in (
+    let start : tie.Start = search needs in
+    let counted : tie.After-used-of = search needs in
+    let examined : tie.After-first-bad = search needs in
+    let ran : tie.After-decode-at = search needs in
+    let decoded = ran .decode-at .ensures in
+    let said = good-readings (start .args .code) (start .args .rate) (start .args .info) (start .args .readings .now) (length (start .args .out .now)) (length (start .args .scratch .now)) (omega (arith, counted)) (omega (arith, counted)) (omega (arith, counted)) (omega (arith, counted)) (omega (arith, counted)) _ _ (counted .used-of .ensures) (examined .first-bad .ensures) (omega arith) in (
       ap accepted (decoded .0) ∙ sym said,
       (
         leaves-word _ _ said (codeOf (start .args .code)) (patternOf (start .args .rate)) (start .args .readings .now) (start .args .info) _ (start .args .out .now) (decoded .1 .0),

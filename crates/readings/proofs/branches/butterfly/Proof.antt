@@ -2,6 +2,7 @@
 use borrow.Author.Needs.{needs}
 use mathlib.Core.Bool.{false}
 use mathlib.Core.Path.{_≡_, refl}
+use Prim.Native.Nat.{_+_}
 use lib.Ieee.{Float, nan, inf, fin, binary32, add, lt}
 use Rattle.best_path.proofs.Candidates.{both-relaxed}
 use Rattle.readings.specs.Sums.{largest}
@@ -28,11 +29,12 @@ nan-not-larger (fin s m e) c = refl
 
 returns : tie.Need-returns
 returns c =
-    let even = c .before .before .before .standing .ensures in
-    let odd = c .before .before .standing2 .ensures in
+    let args = c .before .before .before .before .args in
+    let even = c .before .before .before .standing in
+    let odd = c .before .before .standing2 in
     record {
-      low = both-relaxed largest nan nan-not-larger _ _ _ _ _ _ _ _ _ even odd (c .before .best-of .ensures);
-      high = both-relaxed largest nan nan-not-larger _ _ _ _ _ _ _ _ _ even odd (c .best-of2 .ensures);
+      low = both-relaxed largest nan nan-not-larger (args .m0) (args .m1) (even .result) (odd .result) (args .x) (args .y) (args .s) (args .s + 1) _ (even .ensures) (odd .ensures) (c .before .best-of .ensures);
+      high = both-relaxed largest nan nan-not-larger (args .m0) (args .m1) (even .result) (odd .result) (args .y) (args .x) (args .s) (args .s + 1) _ (even .ensures) (odd .ensures) (c .best-of2 .ensures);
     }
 
 pub butterfly-spec : {M : Type 1} → statement M

@@ -14,11 +14,11 @@ not-above (inf s) e = rw (not-lt-le mark (inf s) refl refl e)
 not-above (fin s m d) e = rw (not-lt-le mark (fin s m d) refl refl e)
 
 returns : tie.Need-returns
-returns c = rw (lt-not-le mark _ (c .if1 .taken))
+returns c = rw (lt-not-le mark (c .before .args .m) (c .if1 .taken))
 
 returns-2 : tie.Need-returns-2
 unfolding div ofBits
-returns-2 c = not-above _ (c .if1 .left)
+returns-2 c = not-above (c .before .args .m) (c .if1 .left)
 
 pub standing-spec : {M : Type 1} → statement M
 standing-spec = tie.close (tie.spec returns returns-2)

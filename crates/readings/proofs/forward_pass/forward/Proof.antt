@@ -4,14 +4,13 @@ use mathlib.Core.List.{List, _++_}
 use mathlib.Core.Path.{_≡_, refl, sym, ap, ap₂, _∙_}
 use Prim.Native.Nat.{ℕ, _+_, _-_, _*_, _%_, _^_, _≤_, _<_}
 use native.Mathlib.Nat.{le-trans, mod-eq-of-lt, suc-mul, mul-le-mul-right}
-use native.Mathlib.Numerals.{add-one}
 use native.Mathlib.Omega.{arith}
 use borrow.Author.Needs.{needs}
 use lib.Dec.{eqb}
 use lib.Ieee.{Float}
 use lib.ListN.{length, getD, take, drop, length-take, length-drop}
 use lib.Pow.{pow-pos}
-use Rattle.best_path.proofs.Rows.{row-fits, rows-start, rows-put}
+use Rattle.best_path.proofs.Rows.{row-fits, row-next, rows-start, rows-put}
 use Rattle.trellis.specs.declared.ConvCode.{ConvCode}
 use Rattle.trellis.specs.declared.KeepPattern.{KeepPattern}
 use Rattle.trellis.specs.Choice.{keepOf}
@@ -160,7 +159,7 @@ loop-again c =
       omega (arith, c .before .before .before .before .before .before .before .before .before .before .before .before .before .loop-test .taken),
       column-next (keep head .period) (loop .t) (loop .column) _ (loop .inv .1) (c .next-column .ensures),
       counts,
-      omega (arith, loop .inv .3, add-one (loop .t), suc-mul (loop .t) (2 * start head .args .half)),
+      row-next (loop .to) (loop .t) (2 * start head .args .half) (loop .inv .3),
       c .before .before .rows .given .1 ∙ loop .inv .4,
       agrees-next (code head) (some head) (keepOf (keep head)) (readings head) (loop .pm) _ _ (loop .t) (loop .inv .5) reads reads2 _ _ (c .before .before .before .step .ensures .0),
       rows-put (rows-filled (code head) (some head) (keepOf (keep head)) (readings head) (2 * start head .args .half) (two head)) (start head .args .rows .now) (loop .rows) _ (loop .to) (loop .t) (loop .inv .6) (loop .inv .3)

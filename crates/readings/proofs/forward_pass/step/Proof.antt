@@ -1,8 +1,9 @@
 -- `readings::forward_pass::step`. The invariant: after n turns the lists hold what n turns of the butterfly store. Assumes nothing.
 use mathlib.Core.Path.{_≡_, refl, ap, _∙_}
-use Prim.Native.Nat.{ℕ, _+_, _-_, _*_, _^_, _≤_, _<_}
+use Prim.Native.Nat.{ℕ, _+_, _-_, _*_, _^_, _≤_}
 use native.Mathlib.Omega.{arith}
 use borrow.Author.Needs.{needs}
+use lib.Ieee.{Float}
 use lib.ListN.{length, length-set}
 use Rattle.best_path.proofs.Stored.{stored, stored-none, stored-turn}
 use Rattle.trellis.specs.declared.ConvCode.{ConvCode}
@@ -101,19 +102,19 @@ loop-less c = omega arith
 
 loop-again : tie.Need-loop-again Inv-loop μ-loop
 loop-again c =
-    let loop = c .before .before .before .before .before .before .before .before .before .before .loop in
-    let args = c .before .before .before .before .before .before .before .before .before .before .before .before .before .before .args in
-    let below : loop .n < args .half = c .before .before .before .before .before .before .before .before .before .loop-test .taken in
-    let x = c .before .before .before .before .before .before .before .signed .ensures in
-    let y = c .before .before .before .before .before .signed2 .ensures in
-    let winged = c .before .before .butterfly .ensures in
+    let pair : tie.After-butterfly Inv-loop μ-loop = search needs in
+    let turn = pair .before .before .before .before .before .before .before in
+    let loop = turn .before .loop in
+    let args = turn .before .before .before .before .before .args in
+    let x = pair .before .before .before .before .before .signed .ensures in
+    let y = pair .before .before .before .signed2 .ensures in
     let cells =
-    turned (args .half) (args .c0 .now) (args .c1 .now) (args .a) (args .b) (args .pm .now) (loop .n) below _ _ x y (loop .s) (loop .inv .1) _ winged in (
+    turned (args .half) (args .c0 .now) (args .c1 .now) (args .a) (args .b) (args .pm .now) (loop .n) (turn .loop-test .taken) _ _ x y (loop .s) (loop .inv .1) _ (pair .butterfly .ensures) in (
       omega arith,
       omega arith,
       simp length-set (loop .inv .2),
-      λ code crossed. stored-turn (args .half) _ (args .next .now) (loop .n) (loop .next) _ _ (loop .inv .3 code crossed) (ap met-of (cells code crossed .0)) (ap met-of (cells code crossed .1)),
-      λ code crossed. stored-turn (args .half) _ (args .row .now) (loop .n) (loop .row) _ _ (loop .inv .4 code crossed) (ap from-of (cells code crossed .0)) (ap from-of (cells code crossed .1)),
+      λ code crossed. stored-turn {A = Float} (args .half) _ (args .next .now) (loop .n) (loop .next) _ _ (loop .inv .3 code crossed) (ap met-of (cells code crossed .0)) (ap met-of (cells code crossed .1)),
+      λ code crossed. stored-turn {A = ℕ} (args .half) _ (args .row .now) (loop .n) (loop .row) _ _ (loop .inv .4 code crossed) (ap from-of (cells code crossed .0)) (ap from-of (cells code crossed .1)),
     )
 
 same-length : tie.Need-same-length Inv-loop μ-loop
