@@ -2,7 +2,7 @@
 -- butterfly's loop comes to the step. Order: the order of whole numbers, and of states. Words: paths an input at a time. Choice: which of two paths beats the other.
 -- BestPath: the way back is the best path. InfoWords: and from state 0 the best info word. Simulation: metrics that agree step by step have runs that
 -- agree. Rows: rows of survivors. Back: the way back over them. Candidates: two branches into a state, as a decoder compares them. Butterfly: the four
--- branches of two states.
+-- branches of two states. NoBetter: no branch is better than the metric of the state that it leads to.
 pub mod Visiting
 pub mod Survivors
 pub mod Metrics
@@ -17,3 +17,4 @@ pub mod Rows
 pub mod Back
 pub mod Candidates
 pub mod Butterfly
+pub mod NoBetter

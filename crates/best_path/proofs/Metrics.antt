@@ -21,26 +21,28 @@ chosen-met Holds true true a z h k = h refl refl
 chosen-met Holds true false a z h k = k
 chosen-met Holds false q a z h k = k
 
--- `Holds t m` is said of the metrics after t steps
-module _ {M B : Type 0} (op : Metric M B) (code : ConvCode) (some : 0 < code .width) (gains : ℕ → ℕ → ℕ → B) (Holds : ℕ → M → Type 0) (of-mark : (t : ℕ) → Holds t (op .mark)) (of-winner : (t s i : ℕ) (m y : M) → Holds t m → op .reached m ≡ true → op .better (op .add m (gains t s i)) y ≡ true → Holds (suc t) (op .add m (gains t s i))) where
-  relaxed-met : (t s i : ℕ) (z : Cell M) (m : M) → Holds t m → Holds (suc t) (z .met) → Holds (suc t) (relaxed op z m (gains t s i) s .met)
+-- one step: `Before` is said of the metrics before it, `After` of those after it
+module _ {M B : Type 0} (op : Metric M B) (code : ConvCode) (some : 0 < code .width) (gain : ℕ → ℕ → B) (Before After : M → Type 0) (of-mark : After (op .mark)) (of-winner : (s i : ℕ) (m y : M) → Before m → op .reached m ≡ true → op .better (op .add m (gain s i)) y ≡ true → After (op .add m (gain s i))) where
+  relaxed-met : (s i : ℕ) (z : Cell M) (m : M) → Before m → After (z .met) → After (relaxed op z m (gain s i) s .met)
   unfolding relaxed
-  relaxed-met t s i z m h k =
-      let x = op .add m (gains t s i) in
-      chosen-met (Holds (suc t)) (op .reached m) (op .better x (z .met)) (record { met = x; from = s }) z (of-winner t s i m (z .met) h) k
+  relaxed-met s i z m h k =
+      let x = op .add m (gain s i) in
+      chosen-met After (op .reached m) (op .better x (z .met)) (record { met = x; from = s }) z (of-winner s i m (z .met) h) k
 
-  step-met : (t : ℕ) (old : ℕ → M) → ((s : ℕ) → s < 2 ^ code .width → Holds t (old s)) → (n : ℕ) → n < 2 ^ code .width → Holds (suc t) (getD (step op code old (gains t)) n (unreached op) .met)
+  pub step-met : (old : ℕ → M) → ((s : ℕ) → s < 2 ^ code .width → Before (old s)) → (n : ℕ) → n < 2 ^ code .width → After (getD (step op code old gain) n (unreached op) .met)
   unfolding best
-  step-met t old held n h =
+  step-met old held n h =
       let two = states-two-halves code some in
       let half = 2 ^ (code .width - 1) in
       let k = n % half in
       let i = n / half in
       let under : k < half = mod-lt n (pow-pos (code .width - 1)) in
-      subst (λ (c : Cell M). Holds (suc t) (c .met)) (sym (step-at op code some old (gains t) n h))
-      (relaxed-met t (2 * k + 1) i _ (old (2 * k + 1)) (held (2 * k + 1) (omega (arith, two)))
-      (relaxed-met t (2 * k) i (unreached op) (old (2 * k)) (held (2 * k) (omega (arith, two))) (of-mark (suc t))))
+      subst (λ (c : Cell M). After (c .met)) (sym (step-at op code some old gain n h))
+      (relaxed-met (2 * k + 1) i _ (old (2 * k + 1)) (held (2 * k + 1) (omega (arith, two)))
+      (relaxed-met (2 * k) i (unreached op) (old (2 * k)) (held (2 * k) (omega (arith, two))) of-mark))
 
+-- `Holds t m` is said of the metrics after t steps
+module _ {M B : Type 0} (op : Metric M B) (code : ConvCode) (some : 0 < code .width) (gains : ℕ → ℕ → ℕ → B) (Holds : ℕ → M → Type 0) (of-mark : (t : ℕ) → Holds t (op .mark)) (of-winner : (t s i : ℕ) (m y : M) → Holds t m → op .reached m ≡ true → op .better (op .add m (gains t s i)) y ≡ true → Holds (suc t) (op .add m (gains t s i))) where
   abbrev metOf : Cell M → M
   metOf c = c .met
 
@@ -49,7 +51,8 @@ module _ {M B : Type 0} (op : Metric M B) (code : ConvCode) (some : 0 < code .wi
   metric-kept start first zero s h = first s h
   metric-kept start first (suc t) s h =
       let old : ℕ → M = λ r. getD (metsAfter op code gains start t) r (op .mark) in
-      subst (Holds (suc t)) (sym (List·getD-map metOf (step op code old (gains t)) s (unreached op))) (step-met t old (metric-kept start first t) s h)
+      subst (Holds (suc t)) (sym (List·getD-map metOf (step op code old (gains t)) s (unreached op)))
+      (step-met op code some (gains t) (Holds t) (Holds (suc t)) (of-mark (suc t)) (of-winner t) old (metric-kept start first t) s h)
 
 -- where whatever is better than something has it, whichever branches brought it there
 pub metric-holds : {M B : Type 0} (op : Metric M B) (Holds : M → Type 0) → Holds (op .mark) → ((x y : M) → op .better x y ≡ true → Holds x) → (code : ConvCode) → 0 < code .width → (gains : ℕ → ℕ → ℕ → B) (start : List M) → ((s : ℕ) → s < 2 ^ code .width → Holds (getD start s (op .mark))) → (t s : ℕ) → s < 2 ^ code .width → Holds (getD (metsAfter op code gains start t) s (op .mark))

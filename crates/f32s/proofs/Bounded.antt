@@ -40,7 +40,7 @@ infinite-above (fin t k d) n c v h = h
 
 module _ (f : Format) (j : ℕ) (room : prec f + j ≤ emax f) where
   -- q * 2 ^ j is a value of the format
-  bound-exact : (q c : ℕ) → q ≤ 2 ^ prec f → 0 < c → HasValue (round f false (q * 2 ^ j * c) c) false (q * 2 ^ j * c) c
+  pub bound-exact : (q c : ℕ) → q ≤ 2 ^ prec f → 0 < c → HasValue (round f false (q * 2 ^ j * c) c) false (q * 2 ^ j * c) c
   bound-exact q c few C = go (eq-or-lt-of-le few)
     where
       regroup : (q i : ℕ) → q * 2 ^ j * c * 2 ^ i ≡ q * 2 ^ (j + i) * c
@@ -65,7 +65,7 @@ module _ (f : Format) (j : ℕ) (room : prec f + j ≤ emax f) where
       go true (suc q) h = size-at-most _ _ y (cond s a b * 2 ^ j) c C v h
       go false q h = infinite-above y (cond s a b * 2 ^ j * c) c v h
 
-  round-between : (s : Bool) (n c a b : ℕ) → 0 < c → cond s a b ≤ 2 ^ prec f → n ≤ cond s a b * 2 ^ j * c → LiesBetween a b j (round f s n c)
+  pub round-between : (s : Bool) (n c a b : ℕ) → 0 < c → cond s a b ≤ 2 ^ prec f → n ≤ cond s a b * 2 ^ j * c → LiesBetween a b j (round f s n c)
   round-between s n c a b C few h =
       let most = cond s a b * 2 ^ j * c in
       rw round-is

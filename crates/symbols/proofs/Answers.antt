@@ -13,12 +13,23 @@ use Rattle.refusal.specs.Lent.{over, leaves}
 use Rattle.trellis.specs.Choice.{k5}
 use Rattle.symbols.specs.Costs.{smallest}
 use Rattle.symbols.specs.Decode.{firstLeast, mets, froms, word, filledRows}
-use Rattle.symbols.specs.Said.{symbolsIn, softSaid, hardSaid, phasorsOf}
+use Rattle.symbols.specs.Said.{examined, roomFor, symbolsIn, softSaid, hardSaid, phasorsOf}
 use Rattle.symbols.specs.Used.{firstBeyond}
 use Rattle.symbols.proofs.Hard.{length-phasors, none-beyond}
 use Rattle.symbols.proofs.Steps.{rows-filled}
 
 -- ---- the refusals
+
+-- some component is beyond ±1,024, or none is
+module _ {A : Type 0} (used : List Float) (rest : Said A) (bad : ℕ) (of-bad : bad ≡ firstBeyond used) where
+  examined-beyond : bad < length used → examined used rest ≡ refused 7 bad
+  examined-beyond h = rw (← of-bad, lt-ltb bad (length used) h)
+
+  examined-within : length used ≤ bad → examined used rest ≡ rest
+  examined-within h = rw (← of-bad, le-ltb bad (length used) h)
+
+room-enough : {A : Type 0} (count room scratch : ℕ) (rest : Said A) → count ≤ 4096 → count ≤ room → count * 16 ≤ scratch → roomFor count room scratch rest ≡ rest
+room-enough count room scratch rest a b c = rw (le-ltb 4096 count a, le-ltb room count b, le-ltb scratch (count * 16) c)
 
 module _ (soft : List Float) (room scratch : ℕ) where
   abbrev said : Said ℕ
@@ -42,16 +53,22 @@ module _ (soft : List Float) (room scratch : ℕ) where
       no-scratch h = rw (le-ltb 4096 count a, le-ltb room count b, lt-ltb scratch (count * 16) h)
 
       module _ (c : count * 16 ≤ scratch) (bad : ℕ) (of-bad : bad ≡ firstBeyond (take (2 * count) soft)) where
-        counted : length (take (2 * count) soft) ≡ 2 * count
+        abbrev used : List Float
+        used = take (2 * count) soft
+
+        counted : length used ≡ 2 * count
         counted = length-take-le (2 * count) soft (omega arith)
 
-        pub beyond : bad < 2 * count → said ≡ refused 7 bad
+        -- an odd last component is not among them
+        said-of-used : said ≡ examined used (accepted count)
         unfolding softSaid
-        beyond h = rw (le-ltb 4096 count a, le-ltb room count b, le-ltb scratch (count * 16) c, ← of-bad, counted, lt-ltb bad (2 * count) h)
+        said-of-used = room-enough count room scratch _ a b c
+
+        pub beyond : bad < 2 * count → said ≡ refused 7 bad
+        beyond h = said-of-used ∙ examined-beyond used (accepted count) bad of-bad (omega (arith, counted))
 
         pub all-within : 2 * count ≤ bad → said ≡ accepted count
-        unfolding softSaid
-        all-within h = rw (le-ltb 4096 count a, le-ltb room count b, le-ltb scratch (count * 16) c, ← of-bad, counted, le-ltb bad (2 * count) h)
+        all-within h = said-of-used ∙ examined-within used (accepted count) bad of-bad (omega (arith, counted))
 
 -- ---- what is left
 

@@ -1,6 +1,6 @@
 -- What the costs and the metrics of symbols can come to where every component is within ±1,024: a cost is from 0 up to 257 * 2 ^ 13, a metric after t
--- symbols is the mark or from 0 up to t times that. So a metric is reached where it is not the mark, and then it is below it. Assumes nothing.
-use mathlib.Core.Bool.{true, false, not, true≢false}
+-- symbols is the mark or from 0 up to t times that. So no branch out of a reached state comes to the mark. Assumes nothing.
+use mathlib.Core.Bool.{true, false, true≢false}
 use mathlib.Core.List.{List}
 use mathlib.Core.Logic.{_⊎_, inl, inr}
 use mathlib.Core.Path.{_≡_, refl, sym, ap, _∙_}
@@ -8,13 +8,13 @@ use Prim.Native.Nat.{ℕ, zero, suc, _+_, _-_, _*_, _^_, _≤_, _<_, zero-le}
 use native.Mathlib.Nat.{lt-of-le-of-lt, mul-le-mul-right}
 use native.Mathlib.Omega.{arith}
 use lib.Dec.{lit<, lit≤}
-use lib.Ieee.{Float, nan, binary32, ofBits, neg, lt, le}
+use lib.Ieee.{Float, nan, binary32, ofBits, neg, lt}
 use lib.ListN.{getD, getD-replicate}
 use Rattle.best_path.proofs.Metrics.{metric-kept}
 use Rattle.f32s.specs.Bounded.{Between, UpTo}
 use Rattle.f32s.specs.Single.{within}
 use Rattle.f32s.proofs.Bounded.{sum-up-to, difference-square-up-to, wider-between, lt-mark}
-use Rattle.f32s.proofs.Ordered.{lt-not-le}
+use Rattle.f32s.proofs.Ordered.{lt-irrefl}
 use Rattle.refusal.specs.Limits.{most}
 use Rattle.trellis.specs.declared.ConvCode.{ConvCode}
 use Rattle.trellis.specs.State.{window, parityOf}
@@ -69,19 +69,18 @@ abbrev pub MarkOrUpTo : ℕ → Float → Type 0
 MarkOrUpTo q m = (m ≡ mark) ⊎ UpTo q 13 m
 
 pub mark-unreached : smallest .reached mark ≡ false
-unfolding ofBits le
-mark-unreached = refl
+mark-unreached = lt-irrefl mark
 
 pub up-to-below : {q : ℕ} {m : Float} → q ≤ 2 ^ 24 → UpTo q 13 m → lt m mark ≡ true
 up-to-below few u = lt-mark u (lt-of-le-of-lt (mul-le-mul-right (2 ^ 13) few) (lit< tt))
 
 pub reached-up-to : {q : ℕ} {m : Float} → MarkOrUpTo q m → smallest .reached m ≡ true → UpTo q 13 m
-reached-up-to (inl e) r = absurd (true≢false (sym r ∙ ap (λ (x : Float). not (le mark x)) e ∙ mark-unreached))
+reached-up-to (inl e) r = absurd (true≢false (sym r ∙ ap (λ (x : Float). lt x mark) e ∙ mark-unreached))
 reached-up-to (inr u) r = u
 
 pub unreached-mark : {q : ℕ} {m : Float} → q ≤ 2 ^ 24 → MarkOrUpTo q m → smallest .reached m ≡ false → m ≡ mark
 unreached-mark few (inl e) r = e
-unreached-mark {q} {m} few (inr u) r = absurd (true≢false (sym (ap not (lt-not-le m mark (up-to-below few u))) ∙ r))
+unreached-mark {q} {m} few (inr u) r = absurd (true≢false (sym (up-to-below few u) ∙ r))
 
 -- ---- the metrics
 
@@ -93,7 +92,7 @@ limit-few n h = omega arith
 abbrev pub metricAt : ConvCode → List Float → ℕ → ℕ → Float
 metricAt code soft t s = getD (mets code soft t) s mark
 
-started-bounded : (code : ConvCode) (s : ℕ) → s < 2 ^ code .width → MarkOrUpTo 0 (getD (started code) s mark)
+pub started-bounded : (code : ConvCode) (s : ℕ) → s < 2 ^ code .width → MarkOrUpTo 0 (getD (started code) s mark)
 started-bounded code zero h = inr (unfold ofBits in record { lies = zero-le })
 started-bounded code (suc s) h = inl (getD-replicate (2 ^ code .width - 1) s mark mark (omega arith))
 
@@ -101,15 +100,17 @@ module _ (code : ConvCode) (some : 0 < code .width) (soft : List Float) (n : ℕ
   abbrev Bounded : ℕ → Float → Type 0
   Bounded t m = t ≤ n → MarkOrUpTo (257 * t) m
 
-  winner-bounded : (t s i : ℕ) (m y : Float) → Bounded t m → smallest .reached m ≡ true → smallest .better (smallest .add m (symbolCosts code soft t s i)) y ≡ true → Bounded (suc t) (smallest .add m (symbolCosts code soft t s i))
+  candidate-bounded : (t s i : ℕ) (m : Float) → t < n → MarkOrUpTo (257 * t) m → smallest .reached m ≡ true → UpTo (257 * suc t) 13 (smallest .add m (symbolCosts code soft t s i))
   unfolding symbolCosts
-  winner-bounded t s i m y h r b l =
+  candidate-bounded t s i m l h r =
       let more : 257 * suc t ≡ 257 * t + 257 = omega arith in
-      inr
-      (rw more
-      (sum-up-to binary32 13 (lit≤ tt) (reached-up-to (h (omega arith)) r)
+      rw more
+      (sum-up-to binary32 13 (lit≤ tt) (reached-up-to h r)
       (branch-bounded (getD soft (2 * t) nan) (getD soft (2 * t + 1) nan) (all-within (2 * t) (omega arith)) (all-within (2 * t + 1) (omega arith)) code s i)
-      (omega arith)))
+      (omega arith))
+
+  winner-bounded : (t s i : ℕ) (m y : Float) → Bounded t m → smallest .reached m ≡ true → smallest .better (smallest .add m (symbolCosts code soft t s i)) y ≡ true → Bounded (suc t) (smallest .add m (symbolCosts code soft t s i))
+  winner-bounded t s i m y h r b l = inr (candidate-bounded t s i m (omega arith) (h (omega arith)) r)
 
   pub metrics-bounded : (t s : ℕ) → t ≤ n → s < 2 ^ code .width → MarkOrUpTo (257 * t) (metricAt code soft t s)
   unfolding mets
@@ -117,9 +118,10 @@ module _ (code : ConvCode) (some : 0 < code .width) (soft : List Float) (n : ℕ
       metric-kept smallest code some (symbolCosts code soft) Bounded (λ t l. inl refl) winner-bounded (started code)
       (λ s h l. started-bounded code s h) t s h l
 
-  pub reached-below-mark : (t s : ℕ) → t ≤ n → s < 2 ^ code .width → smallest .reached (metricAt code soft t s) ≡ true → lt (metricAt code soft t s) mark ≡ true
-  reached-below-mark t s l h r = up-to-below (omega arith) (reached-up-to (metrics-bounded t s l h) r)
+  pub candidate-below-mark : (t s i : ℕ) → t < n → s < 2 ^ code .width → smallest .reached (metricAt code soft t s) ≡ true → lt (smallest .add (metricAt code soft t s) (symbolCosts code soft t s i)) mark ≡ true
+  candidate-below-mark t s i l h r =
+      up-to-below (omega arith) (candidate-bounded t s i (metricAt code soft t s) l (metrics-bounded t s (omega arith) h) r)
 
   pub unreached-iff-mark : (t s : ℕ) → t ≤ n → s < 2 ^ code .width → (smallest .reached (metricAt code soft t s) ≡ false → metricAt code soft t s ≡ mark) × (metricAt code soft t s ≡ mark → smallest .reached (metricAt code soft t s) ≡ false)
   unreached-iff-mark t s l h =
-      (unreached-mark (omega arith) (metrics-bounded t s l h), λ e. ap (λ (m : Float). not (le mark m)) e ∙ mark-unreached)
+      (unreached-mark (omega arith) (metrics-bounded t s l h), λ e. ap (λ (m : Float). lt m mark) e ∙ mark-unreached)

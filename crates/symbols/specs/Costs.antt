@@ -1,8 +1,7 @@
 -- The phasor table, and what a branch costs in f32, each operation rounded once. Definitions only.
-use mathlib.Core.Bool.{not}
 use mathlib.Core.List.{List, [], _∷_}
 use Prim.Native.Nat.{ℕ, _+_, _-_, _*_, _^_}
-use lib.Ieee.{Float, binary32, ofBits, neg, add, sub, mul, lt, le}
+use lib.Ieee.{Float, binary32, ofBits, neg, add, sub, mul, lt}
 use lib.ListN.{getD, replicate}
 use Rattle.best_path.specs.Metric.{Metric}
 use Rattle.trellis.specs.declared.ConvCode.{ConvCode}
@@ -42,12 +41,12 @@ costs code re im s i = cost re im (phasorOf (parityOf (code .g0) (window code s 
 abbrev pub mark : Float
 mark = ofBits binary32 0x7eff_ffff
 
--- A state at or above the mark is skipped; only a strictly smaller candidate replaces.
+-- A state is reachable when its metric is below the mark, and skipped where it is not; only a strictly smaller candidate replaces.
 abbrev pub smallest : Metric Float Float
 smallest =
     record {
       mark = mark;
-      reached = λ (m : Float). not (le mark m);
+      reached = λ (m : Float). lt m mark;
       add = λ (m c : Float). add binary32 m c;
       better = λ (x y : Float). lt x y;
     }

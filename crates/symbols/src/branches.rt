@@ -25,7 +25,7 @@ fn standing(m: f32) -> f32
 }
 
 // The second where it is smaller.
-fn smaller(z: f32, x: f32) -> f32
+pub fn smaller(z: f32, x: f32) -> f32
     ensures { λ r. ⌜ r ≡ cond (lt x z) x z ⌝ }
 {
     if x < z { x } else { z }

@@ -14,7 +14,7 @@ use crate::phasors::prices_of;
 
 // One step of a symbol: the new metrics go to next, the survivors to the front of row. Survivor numbers
 // come from a counter of their own: made from n they keep the loop from being vectorised well.
-fn step(
+pub fn step(
     c0: &[u32; 32],
     c1: &[u32; 32],
     re: f32,
@@ -52,7 +52,7 @@ fn step(
 }
 
 // The first of the states with the least metric.
-fn first_least(pm: &[f32; 16]) -> usize
+pub fn first_least(pm: &[f32; 16]) -> usize
     ensures { λ r. ⌜ r ≡ firstLeast (now (pm .entry)) 16 ⌝ }
 {
     // Lent as a slice, the array tells its length.

@@ -10,8 +10,8 @@ ghost use Rattle.symbols.specs.Decode.{word, filledRows};
 ghost use Rattle.symbols.specs.Said.{symbolsIn, softSaid, hardSaid, phasorsOf};
 ghost use Rattle.symbols.specs.Used.{firstBeyond};
 
-mod branches;
-mod forward_pass;
+pub mod branches;
+pub mod forward_pass;
 mod phasors;
 
 use forward_pass::forward;

@@ -1,5 +1,7 @@
 -- `symbols::branches::from_smaller`, by its test. Assumes nothing.
 use borrow.Author.Needs.{needs}
+use lib.Ieee.{lt}
+use Rattle.best_path.proofs.Candidates.{where-true, where-false}
 use Rattle.symbols.proofs.branches.from_smaller.Statement.{statement}
 use Rattle.symbols.proofs.branches.from_smaller.Tie as tie
 
@@ -7,10 +9,10 @@ add-result : tie.Need-add-result
 add-result c = search needs
 
 returns : tie.Need-returns
-returns c = rw (c .if1 .taken)
+returns c = where-true (lt (c .before .args .x) (c .before .args .z)) _ _ (c .if1 .taken)
 
 returns-2 : tie.Need-returns-2
-returns-2 c = rw (c .if1 .left)
+returns-2 c = where-false (lt (c .before .args .x) (c .before .args .z)) _ _ (c .if1 .left)
 
 pub from-smaller-spec : {M : Type 1} → statement M
 from-smaller-spec = tie.close (tie.spec add-result returns returns-2)

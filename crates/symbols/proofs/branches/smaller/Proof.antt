@@ -1,12 +1,14 @@
 -- `symbols::branches::smaller`, by its test. Assumes nothing.
+use lib.Ieee.{lt}
+use Rattle.best_path.proofs.Candidates.{where-true, where-false}
 use Rattle.symbols.proofs.branches.smaller.Statement.{statement}
 use Rattle.symbols.proofs.branches.smaller.Tie as tie
 
 returns : tie.Need-returns
-returns c = rw (c .if1 .taken)
+returns c = where-true (lt (c .before .args .x) (c .before .args .z)) _ _ (c .if1 .taken)
 
 returns-2 : tie.Need-returns-2
-returns-2 c = rw (c .if1 .left)
+returns-2 c = where-false (lt (c .before .args .x) (c .before .args .z)) _ _ (c .if1 .left)
 
 pub smaller-spec : {M : Type 1} → statement M
 smaller-spec = tie.close (tie.spec returns returns-2)

@@ -5,6 +5,7 @@ use native.Mathlib.Omega.{arith}
 use borrow.Author.Needs.{needs}
 use lib.ListN.{length, length-set}
 use Rattle.best_path.proofs.Stored.{stored, stored-none, stored-turn}
+use Rattle.symbols.specs.Post.{Priced}
 use Rattle.symbols.proofs.Turn.{metAt, fromAt, met-of, from-of, turned-low, turned-high, all-mets, all-froms}
 use Rattle.symbols.proofs.forward_pass.step.Statement.{statement}
 use Rattle.symbols.proofs.forward_pass.step.Tie as tie
@@ -114,7 +115,8 @@ loop-again : tie.Need-loop-again Inv-loop μ-loop
 loop-again c =
     let loop = c .before .before .before .before .before .before .before .before .before .before .before .before .loop in
     let start = c .before .before .before .before .before .before .before .before .before .before .before .before .before .before .before .before .before in
-    let priced = c .before .before .before .before .before .before .before .before .before .before .before .before .before .before .before .prices-of .ensures in
+    let prices = c .before .before .before .before .before .before .before .before .before .before .before .before .before .before .before .prices-of in
+    let priced : Priced (start .args .re) (start .args .im) (prices .result) = prices .ensures in
     let below : loop .n < 8 = c .before .before .before .before .before .before .before .before .before .before .before .loop-test .taken in
     let x = c .before .before .before .before .before .before .before .before .cost-of-pair .ensures in
     let y = c .before .before .before .before .before .cost-of-pair2 .ensures in
