@@ -1,8 +1,8 @@
 -- What a line's verdict adds to the counts. Definitions only.
 use Prim.Native.Nat.{ℕ, _+_, min}
 use Rattle.replay.specs.declared.Tally.{Tally}
-use Rattle.replay.specs.declared.fields.Verdict.{Verdict}
-use Rattle.replay.specs.declared.fields.Verdict.the-variants.{Same, Differs, Malformed}
+use Rattle.fields.specs.declared.Verdict.{Verdict}
+use Rattle.fields.specs.declared.Verdict.the-variants.{Same, Differs, Malformed}
 
 -- one more, up to the largest u64
 abbrev pub more : ℕ → ℕ

@@ -1,3 +1,2 @@
--- Spelling: what a field of hex digits spells. Count: what a verdict adds to the counts.
-pub mod Spelling
+-- Count: what a verdict adds to the counts.
 pub mod Count

@@ -7,22 +7,17 @@ ghost use mathlib.Core.Path.{_≡_};
 ghost use Prim.Native.Nat.{_+_, _-_, _≤_, _<_};
 ghost use lib.ListN.{length, take, drop};
 ghost use Rattle.replay.specs.Count.{countedOf, more};
-
-mod decoders;
-mod encoders;
-mod fields;
-mod queues;
-mod words;
-
+use block_cases::decoders;
+use block_cases::encoders;
+use fields::MOST;
 use fields::Verdict;
 use fields::find;
 use fields::first;
 use fields::rest;
 use libc::STDIN_FILENO;
 use libc::STDOUT_FILENO;
-
-// A line of which a list has more bytes than this is no case: 4,096 symbols leave 65,536 survivors.
-const MOST: usize = 65552;
+use varicode_cases::queues;
+use varicode_cases::words;
 
 // What has been counted so far. `lines` is also the number of the line last run.
 struct Tally {
@@ -74,6 +69,9 @@ fn verdict_of(line: &[u8], given: &mut [u8], wanted: &mut [u8], out: &mut [u8]) 
         b'b' => decoders::block_case(fields, given, wanted, out),
         b's' => decoders::symbols_case(false, fields, given, wanted, out),
         b'h' => decoders::symbols_case(true, fields, given, wanted, out),
+        b'n' => stream_cases::fresh_case(fields, wanted),
+        b't' => stream_cases::stream_case(fields, given, wanted, out),
+        b'u' => stream_cases::flush_case(fields, wanted, out),
         b'v' => words::word_case(fields),
         b'd' => words::lookup_case(fields, wanted),
         b'w' => queues::writer_case(fields),

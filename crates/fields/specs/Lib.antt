@@ -1,0 +1,2 @@
+-- Spelling: what a field of hex digits spells.
+pub mod Spelling
