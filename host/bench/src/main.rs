@@ -1,8 +1,11 @@
-//! Times the proved doors against the oracle: one run, equal input, both optimised, one module for each area.
+//! Times the proved doors, and the proved code that has no door, against the oracle: one run, equal input, both optimised,
+//! one module for each area.
 
 mod clock;
 mod decoder;
 mod encoder;
+mod streaming;
+mod symbols;
 
 fn main() {
     println!(
@@ -11,4 +14,6 @@ fn main() {
     );
     encoder::run();
     decoder::run();
+    symbols::run();
+    streaming::run();
 }

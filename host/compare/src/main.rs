@@ -8,6 +8,7 @@ mod groups;
 mod lent;
 mod program;
 mod replay;
+mod streaming;
 mod symbols;
 mod varicode;
 
@@ -26,6 +27,7 @@ fn main() -> ExitCode {
     decoder::run(&mut groups, random);
     varicode::run(&mut groups, random);
     symbols::run(&mut groups, random);
+    streaming::run(&mut groups, random);
     program::run(&mut groups, random);
     groups.finish()
 }

@@ -5,6 +5,7 @@ pub mod decoder;
 pub mod encoder;
 pub mod program;
 mod random;
+pub mod streaming;
 pub mod symbols;
 pub mod varicode;
 

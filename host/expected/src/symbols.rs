@@ -7,25 +7,41 @@ use oracle::codec::psk31;
 
 /// The largest size of a component.
 const MOST: f32 = 1024.0;
-const STATES: usize = 16;
+pub(crate) const STATES: usize = 16;
+/// A state is reachable when its metric is below this.
+pub const MARK: f32 = f32::MAX / 2.0;
 const TAPS: [u32; 2] = [0b10101, 0b10011];
 const PHASORS: [(f32, f32); 4] = [(1.0, 0.0), (0.0, -1.0), (0.0, 1.0), (-1.0, 0.0)];
 
 /// `viterbi_decode`, for buffers as they are before the call.
 pub fn decode(soft: &[f32], out: &[u8], scratch: &[u8]) -> AfterBlock {
     let used = &soft[..soft.len() / 2 * 2];
-    let bad = used.iter().position(|x| x.is_nan() || x.abs() > MOST);
-    let why = no_room(used.len() / 2, out, scratch).or(bad.map(|place| refused(7) + place as u64));
+    let why = no_room(used.len() / 2, out, scratch).or(first_bad(used).map(|place| refused(7) + place as u64));
     after(why, used, psk31::viterbi_decode, out, scratch)
 }
 
 /// `viterbi_decode_hard`, for buffers as they are before the call.
 pub fn decode_hard(bits: &[u8], out: &[u8], scratch: &[u8]) -> AfterBlock {
+    let hard = |_: &[f32]| psk31::viterbi_decode_hard(bits);
+    after(
+        no_room(bits.len() / 2, out, scratch),
+        &phasors_of(bits),
+        hard,
+        out,
+        scratch,
+    )
+}
+
+/// The phasors of coded bits, re and im in turn; only the lowest bit of each byte counts.
+pub fn phasors_of(bits: &[u8]) -> Vec<f32> {
     let pairs = bits.chunks_exact(2);
     let points = pairs.map(|pair| PHASORS[usize::from(pair[0] % 2 * 2 + pair[1] % 2)]);
-    let soft: Vec<f32> = points.flat_map(|(re, im)| [re, im]).collect();
-    let hard = |_: &[f32]| psk31::viterbi_decode_hard(bits);
-    after(no_room(bits.len() / 2, out, scratch), &soft, hard, out, scratch)
+    points.flat_map(|(re, im)| [re, im]).collect()
+}
+
+/// The place of the first component that refusal 7 is for.
+pub(crate) fn first_bad(components: &[f32]) -> Option<usize> {
+    components.iter().position(|x| x.is_nan() || x.abs() > MOST)
 }
 
 /// The first of the refusals 3, 4 and 5 that is due.
@@ -48,34 +64,14 @@ fn after(why: Option<u64>, soft: &[f32], word: impl Fn(&[f32]) -> Vec<u8>, out: 
 
 /// The word and the survivors.
 fn run(soft: &[f32]) -> (Vec<u8>, Vec<u8>) {
-    let mark = f32::MAX / 2.0;
-    let mut metrics = [mark; STATES];
-    metrics[0] = 0.0;
+    let mut metrics = started();
     let mut survivors = Vec::new();
     for symbol in soft.chunks_exact(2) {
-        let mut next = [(mark, 0); STATES];
-        for state in (0..STATES).filter(|state| metrics[*state] < mark) {
-            for input in [0, 1] {
-                let window = input << 4 | state;
-                let [first, second] = TAPS.map(|taps| (taps & window as u32).count_ones() % 2);
-                let (e, f) = PHASORS[(2 * first + second) as usize];
-                let (re, im) = (symbol[0], symbol[1]);
-                let candidate = metrics[state] + ((re - e) * (re - e) + (im - f) * (im - f));
-                let new = &mut next[window >> 1];
-                if candidate < new.0 {
-                    *new = (candidate, state as u8);
-                }
-            }
-        }
+        let next = step(&metrics, symbol[0], symbol[1]);
         metrics = next.map(|new| new.0);
-        survivors.extend(next.map(|new| new.1));
+        survivors.extend(next.map(|new| new.1.unwrap_or(0)));
     }
-    let mut state = 0;
-    for other in 1..STATES {
-        if metrics[other] < metrics[state] {
-            state = other;
-        }
-    }
+    let mut state = first_least(&metrics);
     let mut word: Vec<u8> = survivors
         .chunks(STATES)
         .rev()
@@ -87,6 +83,37 @@ fn run(soft: &[f32]) -> (Vec<u8>, Vec<u8>) {
         .collect();
     word.reverse();
     (word, survivors)
+}
+
+/// The metrics before the first symbol.
+pub(crate) fn started() -> [f32; STATES] {
+    let mut metrics = [MARK; STATES];
+    metrics[0] = 0.0;
+    metrics
+}
+
+/// The metric of each state after a symbol, and its survivor where a candidate won.
+pub(crate) fn step(metrics: &[f32; STATES], re: f32, im: f32) -> [(f32, Option<u8>); STATES] {
+    let mut next = [(MARK, None); STATES];
+    for state in (0..STATES).filter(|state| metrics[*state] < MARK) {
+        for input in [0, 1] {
+            let window = input << 4 | state;
+            let [first, second] = TAPS.map(|taps| (taps & window as u32).count_ones() % 2);
+            let (e, f) = PHASORS[(2 * first + second) as usize];
+            let candidate = metrics[state] + ((re - e) * (re - e) + (im - f) * (im - f));
+            let new = &mut next[window >> 1];
+            if candidate < new.0 {
+                *new = (candidate, Some(state as u8));
+            }
+        }
+    }
+    next
+}
+
+/// The first state with the least metric; the search starts at state 0.
+pub(crate) fn first_least(metrics: &[f32; STATES]) -> usize {
+    let smaller = |least, state| if metrics[state] < metrics[least] { state } else { least };
+    (1..STATES).fold(0, smaller)
 }
 
 #[cfg(test)]

@@ -3,5 +3,6 @@
 
 pub mod decoder;
 pub mod line;
+pub mod streaming;
 pub mod symbols;
 pub mod varicode;

@@ -17,4 +17,5 @@ fn main() {
     stored::varicode::print(random);
     stored::decoder::print(random);
     stored::symbols::print(random);
+    stored::streaming::print(random);
 }

@@ -2,5 +2,6 @@
 
 pub mod decoder;
 pub mod encoder;
+pub mod streaming;
 pub mod symbols;
 pub mod varicode;

@@ -1,0 +1,61 @@
+-- `stream_cases::record::spell_metrics`: the writes are within bounds. Assumes nothing.
+use mathlib.Core.Path.{_≡_}
+use Prim.Native.Nat.{_-_, _≤_}
+use native.Mathlib.Omega.{arith}
+use borrow.Author.Needs.{needs}
+use lib.ListN.{length}
+use Rattle.stream_cases.proofs.record.spell_metrics.Statement.{statement}
+use Rattle.stream_cases.proofs.record.spell_metrics.Tie as tie
+
+abbrev Inv-loop : tie.InvT-loop
+Inv-loop bytes₀ pm s₀ bytes s = (s ≤ 16) × (length bytes ≡ length bytes₀)
+
+abbrev μ-loop : tie.MeasureT-loop
+μ-loop bytes₀ pm s₀ bytes s = 16 - s
+
+loop-holds : tie.Need-loop-holds Inv-loop μ-loop
+loop-holds c = omega arith
+
+mul-put-metric : tie.Need-mul-put-metric Inv-loop μ-loop
+mul-put-metric c = omega arith
+
+array-read-put-metric : tie.Need-array-read-put-metric Inv-loop μ-loop
+array-read-put-metric c = omega arith
+
+mul-put-metric-2 : tie.Need-mul-put-metric-2 Inv-loop μ-loop
+mul-put-metric-2 c = omega arith
+
+put-metric-requires : tie.Need-put-metric-requires Inv-loop μ-loop
+put-metric-requires c κs = search needs
+
+add-s : tie.Need-add-s Inv-loop μ-loop
+add-s c = omega arith
+
+loop-less : tie.Need-loop-less Inv-loop μ-loop
+loop-less c = omega arith
+
+loop-again : tie.Need-loop-again Inv-loop μ-loop
+loop-again c = omega arith
+
+same-length : tie.Need-same-length Inv-loop μ-loop
+same-length c = omega arith
+
+returns : tie.Need-returns Inv-loop μ-loop
+returns c = omega arith
+
+pub spell-metrics-spec : {M : Type 1} → statement M
+spell-metrics-spec =
+    tie.close
+    (tie.spec
+    Inv-loop
+    μ-loop
+    loop-holds
+    mul-put-metric
+    array-read-put-metric
+    mul-put-metric-2
+    put-metric-requires
+    add-s
+    loop-less
+    loop-again
+    same-length
+    returns)

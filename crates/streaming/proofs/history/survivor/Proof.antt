@@ -1,0 +1,15 @@
+-- `streaming::history::survivor`, by its test. Assumes nothing.
+use lib.Ieee.{lt}
+use Rattle.best_path.proofs.Candidates.{where-true, where-false}
+use Rattle.symbols.specs.Costs.{mark}
+use Rattle.streaming.proofs.history.survivor.Statement.{statement}
+use Rattle.streaming.proofs.history.survivor.Tie as tie
+
+returns : tie.Need-returns
+returns c = where-true (lt (c .before .args .m) mark) _ _ (c .if1 .taken)
+
+returns-2 : tie.Need-returns-2
+returns-2 c = where-false (lt (c .before .args .m) mark) _ _ (c .if1 .left)
+
+pub survivor-spec : {M : Type 1} → statement M
+survivor-spec = tie.close (tie.spec returns returns-2)

@@ -1,0 +1,111 @@
+-- The streaming decoder, symbol by symbol: its state, what a symbol makes of it, and the bit that comes out. Over any code and lag. Definitions only.
+use mathlib.Core.Bool.{cond}
+use mathlib.Core.List.{List, [], _∷_, map}
+use Prim.Native.Nat.{ℕ, zero, suc, _+_, _*_, _%_, _^_, min}
+use lib.Dec.{eqb, ltb}
+use lib.Ieee.{Float, nan, binary32, sub, lt}
+use lib.ListN.{getD, set, replicate}
+use Rattle.best_path.specs.Run.{inputInto}
+use Rattle.best_path.specs.Step.{Cell, step}
+use Rattle.symbols.specs.Costs.{zero32, mark, smallest, costs, started}
+use Rattle.symbols.specs.Decode.{firstLeast}
+use Rattle.trellis.specs.declared.ConvCode.{ConvCode}
+
+-- the metrics; the history, row by row; the symbols so far, up to one more than the lag; the symbols so far mod 256
+pub record State : Type 0 where
+  pub pm : List Float
+  pub history : List ℕ
+  pub count : ℕ
+  pub turn : ℕ
+
+-- a history of 128 rows, each written again after as many symbols
+abbrev pub rowsKept : ℕ
+rowsKept = 128
+
+-- symbols from one normalisation to the next
+abbrev pub turns : ℕ
+turns = 256
+
+-- the row before a row, round the end
+abbrev pub rowBefore : ℕ → ℕ
+rowBefore row = (row + 127) % rowsKept
+
+-- ---- normalisation
+
+-- the least reachable metric of the first n, and the mark where none is reachable
+unfoldable pub leastOf : List Float → ℕ → Float
+leastOf mets zero = mark
+leastOf mets (suc n) = cond (lt (getD mets n mark) (leastOf mets n)) (getD mets n mark) (leastOf mets n)
+
+-- subtracted from a metric that is reachable
+abbrev pub lowered : Float → Float → Float
+lowered least m = cond (smallest .reached m) (sub binary32 m least) m
+
+-- The least reachable metric, if above 0, is subtracted from each reachable one.
+unfoldable pub normalised : ℕ → List Float → List Float
+unfolding leastOf
+normalised states mets = cond (lt zero32 (leastOf mets states)) (map (lowered (leastOf mets states)) mets) mets
+
+-- ---- the history
+
+-- A row from `at` on, after the states below n: the survivor of each state that a candidate won, whose metric is then below the mark. Other entries
+-- keep their content.
+unfoldable pub kept : List Float → List ℕ → (at n : ℕ) → List ℕ → List ℕ
+kept mets froms at zero history = history
+kept mets froms at (suc s) history =
+    cond (smallest .reached (getD mets s mark)) (set (kept mets froms at s history) (at + s) (getD froms s 0)) (kept mets froms at s history)
+
+-- The state n steps behind s, whose survivor stands in a row. A survivor number out of range is read modulo the number of states.
+unfoldable pub behind : ℕ → List ℕ → (row n s : ℕ) → ℕ
+behind states history row zero s = s
+behind states history row (suc n) s = behind states history (rowBefore row) n (getD history (row * states + s) 0 % states)
+
+-- ---- one symbol
+
+module _ (code : ConvCode) (lag : ℕ) where
+  -- State 0 starts at 0.0, the others are unreachable, and the history is all zero.
+  unfoldable pub fresh : State
+  fresh = record { pm = started code; history = replicate (rowsKept * 2 ^ code .width) 0; count = 0; turn = 0 }
+
+  module _ (st : State) where
+    -- counters out of range are read modulo one more than their largest value
+    abbrev pub countRead : ℕ
+    countRead = st .count % (lag + 2)
+
+    abbrev pub turnRead : ℕ
+    turnRead = st .turn % turns
+
+    -- one add-compare-select, where the symbol reads re and im
+    unfoldable pub stepped : Float → Float → List (Cell Float)
+    unfolding step costs
+    stepped re im = step smallest code (λ (s : ℕ). getD (st .pm) s nan) (costs code re im)
+
+    unfoldable pub metsAfter : Float → Float → List Float
+    unfolding stepped
+    metsAfter re im = map (λ (c : Cell Float). c .met) (stepped re im)
+
+    unfoldable pub fromsAfter : Float → Float → List ℕ
+    unfolding stepped
+    fromsAfter re im = map (λ (c : Cell Float). c .from) (stepped re im)
+
+    -- the state after the symbol: normalised when the old count mod 256 is 255
+    unfoldable pub fed : Float → Float → State
+    unfolding metsAfter fromsAfter normalised kept
+    fed re im =
+        record {
+          pm = cond (eqb turnRead 255) (normalised (2 ^ code .width) (metsAfter re im)) (metsAfter re im);
+          history = kept (metsAfter re im) (fromsAfter re im) (turnRead % rowsKept * 2 ^ code .width) (2 ^ code .width) (st .history);
+          count = min (suc countRead) (suc lag);
+          turn = suc turnRead % turns;
+        }
+
+    -- the top bit of the state that lies the lag behind the first least state, from the state after a symbol
+    unfoldable pub bitBehind : ℕ
+    unfolding behind firstLeast
+    bitBehind =
+        inputInto smallest code (behind (2 ^ code .width) (st .history) (rowBefore (st .turn % rowsKept)) lag (firstLeast (st .pm) (2 ^ code .width)))
+
+    -- what the symbol gives: nothing up to the lag, then that bit
+    unfoldable pub given : List ℕ
+    unfolding bitBehind
+    given = cond (ltb lag (st .count)) (bitBehind ∷ []) []

@@ -1,0 +1,252 @@
+// The streaming decoder: symbol by symbol, each bit 32 symbols late. By value, and in place.
+ghost use mathlib.Core.Path.{_≡_};
+ghost use Prim.Native.Nat.{suc, _+_, _%_, min};
+ghost use lib.ListN.{length};
+ghost use Rattle.refusal.specs.Lent.{leaves};
+ghost use Rattle.trellis.specs.Choice.{k5};
+ghost use Rattle.streaming.specs.Stream.{turns, fresh, fed, bitBehind};
+ghost use Rattle.streaming.specs.Flush.{flushGives};
+ghost use Rattle.streaming.specs.Said.{flushSaid};
+ghost use Rattle.streaming.specs.Held.{lag, standing, held, Feeds, FeedsIn, RefusesAt, Steps, Flushes, FlushesIn, Drains};
+
+mod history;
+mod metrics;
+mod sent;
+
+use history::keep;
+use history::state_behind;
+use history::top_bit;
+use metrics::normalise_after;
+use metrics::select;
+use refusal::Counted;
+use refusal::Refusal;
+use symbols::branches::MARK;
+use symbols::forward_pass::first_least;
+
+// How many symbols a bit comes late.
+pub const LAG: usize = 32;
+
+// Where the count of symbols stays: from then on each brings a bit.
+const FULL: u8 = 33;
+
+// How many values the count has.
+const COUNTS: u8 = 34;
+
+// The metrics; the symbols so far, up to one more than the lag; and the symbols so far mod 256.
+#[repr(C)]
+pub struct Front {
+    pub pm: [f32; 16],
+    pub count: u8,
+    pub turn: u8,
+}
+
+// The state: the front, and 128 rows of 16 survivors.
+#[repr(C)]
+pub struct StreamingViterbi {
+    pub front: Front,
+    pub history: [u8; 2048],
+}
+
+// What a symbol gives: a bit, or nothing yet; or a refusal.
+pub enum Heard {
+    Bit(u8),
+    Nothing,
+    Refused(Refusal),
+}
+
+// A symbol's answer, and the decoder after it.
+pub struct Fed {
+    pub answer: Heard,
+    pub decoder: StreamingViterbi,
+}
+
+// The same where the history is lent.
+pub struct Stepped {
+    pub answer: Heard,
+    pub front: Front,
+}
+
+// A flush's answer, and the decoder after it.
+pub struct Flushed {
+    pub answer: Counted,
+    pub decoder: StreamingViterbi,
+}
+
+// The same where the history is lent.
+pub struct Drained {
+    pub answer: Counted,
+    pub front: Front,
+}
+
+// The counter of symbols up to one more than the lag, after one more of them.
+fn next_count(count: u8) -> u8
+    ensures { λ r. ⌜ r ≡ min (suc (count % (lag + 2))) (suc lag) ⌝ }
+{
+    let n = count % COUNTS;
+    if n < FULL { n + 1 } else { FULL }
+}
+
+// The counter of symbols mod 256, after one more of them.
+fn next_turn(turn: u8) -> u8
+    ensures { λ r. ⌜ r ≡ suc (turn % turns) % turns ⌝ }
+{
+    if turn < 255 { turn + 1 } else { 0 }
+}
+
+// Refusal 7: the front as it came.
+fn refused_at(place: u32, front: Front) -> Stepped
+    ensures { λ r. ⌜ RefusesAt place front r ⌝ }
+{
+    Stepped {
+        answer: Heard::Refused(Refusal { number: 7, place }),
+        front,
+    }
+}
+
+// One symbol: the survivors go to the history, and the front moves on.
+fn advance(front: Front, history: &mut [u8; 2048], re: f32, im: f32) -> Front
+    ensures { λ r. ⌜ standing r (now (history .exit)) ≡ fed k5 lag (standing front (now (history .entry))) re im ⌝ }
+{
+    let old = front.pm;
+    let mut pm = old;
+    let mut froms = [0; 16];
+    select(re, im, &old, &mut pm, &mut froms[..]);
+    let row = (front.turn % 128) as usize;
+    keep(&pm, &froms, 16 * row, history);
+    normalise_after(front.turn, &mut pm);
+    Front {
+        pm,
+        count: next_count(front.count),
+        turn: next_turn(front.turn),
+    }
+}
+
+// The bit that the last symbol gives, where there is one.
+fn bit_behind(front: Front, history: &[u8; 2048]) -> u8
+    ensures { λ r. ⌜ r ≡ bitBehind k5 lag (standing front (now (history .entry))) ⌝ }
+{
+    let pm = front.pm;
+    let least = first_least(&pm);
+    let row = ((front.turn as usize) % 128 + 127) % 128;
+    top_bit(state_behind(history, row, least))
+}
+
+// A symbol, where the history is lent.
+fn feed_lent(front: Front, history: &mut [u8; 2048], re: f32, im: f32) -> Stepped
+    ensures { λ r. ⌜ Steps front (now (history .entry)) re im r (now (history .exit)) ⌝ }
+{
+    let re_good = f32s::within(re);
+    if !re_good {
+        return refused_at(0, front);
+    }
+    let im_good = f32s::within(im);
+    if !im_good {
+        return refused_at(1, front);
+    }
+    let next = advance(front, history, re, im);
+    if next.count < FULL {
+        return Stepped {
+            answer: Heard::Nothing,
+            front: next,
+        };
+    }
+    let bit = bit_behind(next, history);
+    Stepped {
+        answer: Heard::Bit(bit),
+        front: next,
+    }
+}
+
+// A flush, where the history is lent: as many symbols (0, 0) as a bit comes late.
+fn flush_lent(front: Front, history: &mut [u8; 2048], out: &mut [u8]) -> Drained
+    ensures state { λ r. ⌜ Drains front (now (history .entry)) (length (now (out .entry))) r (now (history .exit)) ⌝ }
+    ensures output { λ _. ⌜ now (out .exit) ≡ leaves (flushSaid k5 lag (standing front (now (history .entry))) (length (now (out .entry)))) (flushGives k5 lag (standing front (now (history .entry))) lag) (now (out .entry)) ⌝ }
+{
+    if out.len() < LAG {
+        return Drained {
+            answer: refusal::no_count(4),
+            front,
+        };
+    }
+    let mut at = front;
+    let mut written = 0;
+    for _ in 0..LAG {
+        at = advance(at, history, 0.0, 0.0);
+        if FULL <= at.count {
+            out[written] = bit_behind(at, history);
+            written += 1;
+        }
+    }
+    Drained {
+        answer: Counted::Count(written),
+        front: at,
+    }
+}
+
+impl StreamingViterbi {
+    pub fn new() -> StreamingViterbi
+        ensures { λ r. ⌜ held r ≡ fresh k5 lag ⌝ }
+    {
+        let mut pm = [MARK; 16];
+        pm[0] = 0.0;
+        StreamingViterbi {
+            front: Front {
+                pm,
+                count: 0,
+                turn: 0,
+            },
+            history: [0; 2048],
+        }
+    }
+
+    // One symbol: a bit, or nothing up to the lag; or refusal 7, which leaves the decoder as it was.
+    pub fn feed_symbol(self, re: f32, im: f32) -> Fed
+        ensures { λ r. ⌜ Feeds self re im r ⌝ }
+    {
+        let mut history = self.history;
+        let before = self.front;
+        let s = feed_lent(before, &mut history, re, im);
+        let answer = s.answer;
+        let front = s.front;
+        Fed {
+            answer,
+            decoder: StreamingViterbi { front, history },
+        }
+    }
+
+    // As many symbols (0, 0) as a bit comes late. The bits go to the front of out; or refusal 4, which
+    // leaves everything as it was.
+    pub fn flush(self, out: &mut [u8]) -> Flushed
+        ensures state { λ r. ⌜ Flushes self (length (now (out .entry))) r ⌝ }
+        ensures output { λ _. ⌜ now (out .exit) ≡ leaves (flushSaid k5 lag (held self) (length (now (out .entry)))) (flushGives k5 lag (held self) lag) (now (out .entry)) ⌝ }
+    {
+        let mut history = self.history;
+        let before = self.front;
+        let d = flush_lent(before, &mut history, out);
+        let answer = d.answer;
+        let front = d.front;
+        Flushed {
+            answer,
+            decoder: StreamingViterbi { front, history },
+        }
+    }
+}
+
+// In place, for a host that keeps one decoder: the history is lent, the rest is copied out and stored back.
+pub fn feed(d: &mut StreamingViterbi, re: f32, im: f32) -> Heard
+    ensures { λ r. ⌜ FeedsIn (now (d .entry)) re im r (now (d .exit)) ⌝ }
+{
+    let s = feed_lent(d.front, &mut d.history, re, im);
+    d.front = s.front;
+    s.answer
+}
+
+// The same of a flush: the output is passed on.
+pub fn flush(d: &mut StreamingViterbi, out: &mut [u8]) -> Counted
+    ensures state { λ r. ⌜ FlushesIn (now (d .entry)) (length (now (out .entry))) r (now (d .exit)) ⌝ }
+    ensures output { λ _. ⌜ now (out .exit) ≡ leaves (flushSaid k5 lag (held (now (d .entry))) (length (now (out .entry)))) (flushGives k5 lag (held (now (d .entry))) lag) (now (out .entry)) ⌝ }
+{
+    let s = flush_lent(d.front, &mut d.history, out);
+    d.front = s.front;
+    s.answer
+}

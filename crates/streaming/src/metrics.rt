@@ -1,0 +1,67 @@
+// The metrics of a symbol: add, compare, select; and normalisation.
+ghost use mathlib.Core.Bool.{cond};
+ghost use mathlib.Core.List.{_++_};
+ghost use mathlib.Core.Path.{_≡_};
+ghost use Prim.Native.Nat.{_%_, _≤_};
+ghost use lib.Dec.{eqb};
+ghost use lib.ListN.{length, drop};
+ghost use Rattle.symbols.specs.Post.{newMets, newFroms};
+ghost use Rattle.streaming.specs.Stream.{turns, leastOf, lowered, normalised};
+use crate::sent::SENT0;
+use crate::sent::SENT1;
+use symbols::branches::MARK;
+use symbols::forward_pass::step;
+
+// One symbol: the new metrics go to next, the survivors to the front of froms.
+pub fn select(re: f32, im: f32, pm: &[f32; 16], next: &mut [f32; 16], froms: &mut [u8])
+    requires { ⌜ 16 ≤ length (now froms) ⌝ }
+    ensures mets { λ _. ⌜ now (next .exit) ≡ newMets (now (pm .entry)) re im ⌝ }
+    ensures froms { λ _. ⌜ now (froms .exit) ≡ newFroms (now (pm .entry)) re im ++ drop 16 (now (froms .entry)) ⌝ }
+{
+    let c0 = SENT0;
+    let c1 = SENT1;
+    step(&c0, &c1, re, im, pm, next, froms);
+}
+
+// The least reachable metric, and the mark where none is reachable.
+fn least_of(pm: &[f32; 16]) -> f32
+    ensures { λ r. ⌜ r ≡ leastOf (now (pm .entry)) 16 ⌝ }
+{
+    // Lent as a slice, the array tells its length.
+    let whole = &pm[..];
+    let mut least = MARK;
+    for s in 0..16 {
+        least = symbols::branches::smaller(least, pm[s]);
+    }
+    least
+}
+
+// A metric with the least one subtracted, where it is reachable.
+fn lower(least: f32, m: f32) -> f32
+    ensures { λ r. ⌜ r ≡ lowered least m ⌝ }
+{
+    if m < MARK { m - least } else { m }
+}
+
+// The least reachable metric, if above 0, is subtracted from each reachable one.
+fn normalise(pm: &mut [f32; 16])
+    ensures { λ _. ⌜ now (pm .exit) ≡ normalised 16 (now (pm .entry)) ⌝ }
+{
+    // Lent as a slice, the array tells its length.
+    let whole = &pm[..];
+    let least = least_of(pm);
+    if 0.0 < least {
+        for s in 0..16 {
+            pm[s] = lower(least, pm[s]);
+        }
+    }
+}
+
+// Normalisation when the old count mod 256 is 255.
+pub fn normalise_after(turn: u8, pm: &mut [f32; 16])
+    ensures { λ _. ⌜ now (pm .exit) ≡ cond (eqb (turn % turns) 255) (normalised 16 (now (pm .entry))) (now (pm .entry)) ⌝ }
+{
+    if turn == 255 {
+        normalise(pm);
+    }
+}
