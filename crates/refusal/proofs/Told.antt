@@ -13,7 +13,7 @@ use Rattle.refusal.specs.declared.Put.the-variants as put
 abbrev made : ℕ → ℕ → Refusal
 made n p = record { number = n; place = p }
 
-same-refusal : (q r : Refusal) → q .number ≡ r .number → q .place ≡ r .place → q ≡ r
+pub same-refusal : (q r : Refusal) → q .number ≡ r .number → q .place ≡ r .place → q ≡ r
 same-refusal q r e f = ap₂ made e f
 
 pub count-told : (a b : Counted) → countSaid a ≡ countSaid b → a ≡ b

@@ -1,6 +1,6 @@
 -- Prices: a coded pair's cost among the four. Turn: one turn of a step's loop. Steps: symbols one after the other. Least: the first least state.
 -- Examined: the first component beyond. Hard: the phasors of hard bits. Word: the way back. Answers: the refusals in their
--- order. Bounds: what a cost and a metric can come to.
+-- order. Bounds: what a cost and a metric can come to. Unique: each contract allows one outcome at most.
 pub mod Prices
 pub mod Turn
 pub mod Steps
@@ -10,3 +10,4 @@ pub mod Hard
 pub mod Word
 pub mod Answers
 pub mod Bounds
+pub mod Unique

@@ -1,4 +1,5 @@
 -- Puts: the calls that put bits. Takes: taking out. Words: a word and its gap, read from nothing heard. Back: what a text's stream reads as.
+-- Unique: each contract allows one outcome at most.
 pub mod Puts
 pub mod Takes
 pub mod Bits
@@ -7,3 +8,4 @@ pub mod WriterRuns
 pub mod ReaderRuns
 pub mod Words
 pub mod Back
+pub mod Unique
