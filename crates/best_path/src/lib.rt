@@ -1,5 +1,5 @@
-// The way back over rows of survivors, which spells the word, for any code. The rest of this crate is
-// definitions and laws over any metric and any code, which the decoders share.
+// What the decoders share: a new state as they hold it, and the way back over rows of survivors, which spells
+// the word, for any code. The rest of this crate is definitions and laws over any metric and any code.
 ghost use mathlib.Core.Bool.{cond};
 ghost use mathlib.Core.List.{_++_};
 ghost use mathlib.Core.Path.{_≡_};
@@ -10,6 +10,18 @@ ghost use Rattle.best_path.specs.Path.{wholes};
 ghost use Rattle.best_path.specs.Rows.{rowOf, Traceable};
 ghost use Rattle.best_path.specs.Run.{traced};
 use trellis::ConvCode;
+
+// The best way into a state so far: its metric, and the state that it comes from.
+pub struct Best {
+    pub met: f32,
+    pub from: u8,
+}
+
+// What two states lead to: the new state on the input 0, and on the input 1.
+pub struct Wing {
+    pub low: Best,
+    pub high: Best,
+}
 
 // The way back over the rows of survivors, from the state `last` after the last step. The inputs of the
 // first `info` steps go to out; those of the tail are dropped.

@@ -7,6 +7,8 @@ use native.Mathlib.Omega.{arith}
 use lib.Dec.{eqb}
 use lib.Ieee.{Float, nan, binary32, add, sub, neg}
 use lib.ListN.{length, getD, drop}
+use Rattle.best_path.specs.declared.Wing.{Wing}
+use Rattle.best_path.specs.Post.{cellOf, Winged}
 use Rattle.best_path.specs.Step.{Cell, best}
 use Rattle.best_path.proofs.Butterfly.{parity-bit, low-best, high-best}
 use Rattle.best_path.proofs.Stored.{stored, stored-step}
@@ -14,15 +16,14 @@ use Rattle.trellis.specs.declared.ConvCode.{ConvCode}
 use Rattle.trellis.specs.Post.{Crossed}
 use Rattle.trellis.specs.State.{window, parityOf}
 use Rattle.readings.specs.Sums.{largest, correlation, brings}
-use Rattle.readings.specs.Post.{cellOf, Winged, newMets, newFroms}
-use Rattle.readings.specs.declared.branches.Wing.{Wing}
+use Rattle.readings.specs.Post.{newMets, newFroms}
 use Rattle.readings.proofs.Sides.{sum-correlates, opposite-correlates}
 
 -- for every code that the coded bits are of, from what the code's own calls say
 module _
     (half : ℕ) (c0 c1 : List ℕ) (a b : Float) (pm : List Float) (n : ℕ) (h : n < half) (x y : Float) (of-a : x ≡ cond (eqb (getD c0 n 0) 0) a (neg a))
     (of-b : y ≡ cond (eqb (getD c1 n 0) 0) b (neg b)) (s : ℕ) (of-s : s ≡ 2 * n) (w : Wing)
-    (winged : Winged (getD pm (2 * n) nan) (getD pm (2 * n + 1) nan) s (add binary32 x y) (sub binary32 (neg x) y) w) (code : ConvCode)
+    (winged : Winged largest (getD pm (2 * n) nan) (getD pm (2 * n + 1) nan) s (add binary32 x y) (sub binary32 (neg x) y) w) (code : ConvCode)
     (crossed : Crossed code half c0 c1) where
   bit0 : getD c0 n 0 < 2
   bit0 = omega (arith, crossed .first n h, parity-bit (code .g0) (window code (2 * n) 0))

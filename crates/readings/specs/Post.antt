@@ -4,20 +4,9 @@ use mathlib.Core.Path.{_≡_}
 use Prim.Native.Nat.{ℕ, _+_, _≤_, _<_}
 use lib.Ieee.{Float, nan}
 use lib.ListN.{getD}
-use Rattle.best_path.specs.Step.{Cell, unreached, relaxed, step}
+use Rattle.best_path.specs.Step.{Cell, step}
 use Rattle.trellis.specs.declared.ConvCode.{ConvCode}
-use Rattle.readings.specs.declared.branches.Best.{Best}
-use Rattle.readings.specs.declared.branches.Wing.{Wing}
 use Rattle.readings.specs.Sums.{largest, brings}
-
--- what is known of a new state, as the code holds it
-abbrev pub cellOf : Best → Cell Float
-cellOf z = record { met = z .met; from = z .from }
-
--- The states s and s + 1, of metrics m0 and m1. On the input 0 their branches bring x and y, on the input 1 y and x.
-pub record Winged (m0 m1 : Float) (s : ℕ) (x y : Float) (r : Wing) : Type 0 where
-  pub low : cellOf (r .low) ≡ relaxed largest (relaxed largest (unreached largest) m0 x s) m1 y (s + 1)
-  pub high : cellOf (r .high) ≡ relaxed largest (relaxed largest (unreached largest) m0 y s) m1 x (s + 1)
 
 -- a step that reads a and b, from the metrics as the code holds them
 abbrev pub stepped : ConvCode → List Float → Float → Float → List (Cell Float)

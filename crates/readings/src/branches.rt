@@ -4,18 +4,14 @@ ghost use mathlib.Core.Path.{_≡_};
 ghost use Prim.Native.Nat.{_+_, _<_};
 ghost use lib.Dec.{eqb};
 ghost use lib.Ieee.{nan, neg, lt};
+ghost use Rattle.best_path.specs.Post.{cellOf, Winged};
 ghost use Rattle.best_path.specs.Step.{unreached, chosen};
-ghost use Rattle.readings.specs.Post.{cellOf, Winged};
 ghost use Rattle.readings.specs.Sums.{largest};
+use best_path::Best;
+use best_path::Wing;
 
 // f32::MIN / 2: at or below it a state was not reached.
 pub const MARK: f32 = -1.70141173e38;
-
-// The best way into a state so far: its metric, and the state that it comes from.
-pub struct Best {
-    pub met: f32,
-    pub from: u8,
-}
 
 // A state's metric, or a NaN where it was not reached: a sum with that is a NaN too, which is never the
 // larger one. So a branch needs no test of its own, and the loop of a step is vectorised well.
@@ -54,17 +50,11 @@ fn best_of(x0: f32, x1: f32, s: u8) -> Best
     Best { met, from: 0 }
 }
 
-// What two states lead to: the new state on the input 0, and on the input 1.
-pub struct Wing {
-    pub low: Best,
-    pub high: Best,
-}
-
 // The states s and s + 1, of metrics m0 and m1. On the input 0 their branches bring x and y, on the
 // input 1 y and x.
 pub fn butterfly(m0: f32, m1: f32, s: u8, x: f32, y: f32) -> Wing
     requires { ⌜ s < 255 ⌝ }
-    ensures { λ r. ⌜ Winged m0 m1 s x y r ⌝ }
+    ensures { λ r. ⌜ Winged largest m0 m1 s x y r ⌝ }
 {
     let p0 = standing(m0);
     let p1 = standing(m1);

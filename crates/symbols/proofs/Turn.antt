@@ -6,6 +6,8 @@ use native.Mathlib.Omega.{arith}
 use lib.Dec.{lit<}
 use lib.Ieee.{Float, nan}
 use lib.ListN.{length, getD, drop, drop-of-length-le}
+use Rattle.best_path.specs.declared.Wing.{Wing}
+use Rattle.best_path.specs.Post.{cellOf, Winged}
 use Rattle.best_path.specs.Step.{Cell, best}
 use Rattle.best_path.proofs.Butterfly.{parity-bit, low-best, high-best}
 use Rattle.best_path.proofs.Stored.{stored, stored-step}
@@ -14,8 +16,7 @@ use Rattle.trellis.specs.Post.{Ends, Crossed}
 use Rattle.trellis.specs.State.{window, parityOf}
 use Rattle.trellis.proofs.Chosen.{code-ends}
 use Rattle.symbols.specs.Costs.{smallest, cost, costs, phasorOf}
-use Rattle.symbols.specs.Post.{Priced, pairCost, cellOf, Winged, newMets, newFroms}
-use Rattle.symbols.specs.declared.branches.Wing.{Wing}
+use Rattle.symbols.specs.Post.{Priced, pairCost, newMets, newFroms}
 use Rattle.symbols.specs.declared.phasors.Prices.{Prices}
 use Rattle.symbols.proofs.Prices.{pair-cost, opposite-cost}
 
@@ -48,7 +49,7 @@ module _ (pm : List Float) (re im : Float) where
       (c0 c1 : List ℕ) (crossed : Crossed k5 8 c0 c1) (r : Prices) (priced : Priced re im r) (n : ℕ) (h : n < 8) (x y : Float)
       (of-x : x ≡ pairCost (getD c0 n 0) (getD c1 n 0) (r .of_00) (r .of_01) (r .of_10) (r .of_11))
       (of-y : y ≡ pairCost (getD c0 n 0) (getD c1 n 0) (r .of_11) (r .of_10) (r .of_01) (r .of_00)) (s : ℕ) (of-s : s ≡ 2 * n) (w : Wing)
-      (winged : Winged (getD pm (2 * n) nan) (getD pm (2 * n + 1) nan) s x y w) where
+      (winged : Winged smallest (getD pm (2 * n) nan) (getD pm (2 * n + 1) nan) s x y w) where
     bit0 : getD c0 n 0 < 2
     bit0 = omega (arith, crossed .first n h, parity-bit (k5 .g0) (window k5 (2 * n) 0))
 

@@ -24,6 +24,18 @@ enum Step {
     Bad,
 }
 
+// A writer and a reader, of which a line's steps use one.
+struct Coders {
+    encoder: VaricodeEncoder,
+    decoder: VaricodeDecoder,
+}
+
+// Both after a step, and what the step came to.
+struct Stepped {
+    verdict: Verdict,
+    coders: Coders,
+}
+
 // A writer after a step, and what the step came to.
 struct Written {
     verdict: Verdict,
@@ -38,11 +50,23 @@ struct Read {
 
 // `w STEPS`: steps of a writer, parted by single spaces.
 pub fn writer_case(steps: &[u8]) -> Verdict {
-    let mut encoder = VaricodeEncoder::new();
+    steps_case(steps, b'w')
+}
+
+// `r STEPS`: steps of a reader, parted by single spaces.
+pub fn reader_case(steps: &[u8]) -> Verdict {
+    steps_case(steps, b'r')
+}
+
+// A line's steps, one after the other.
+fn steps_case(steps: &[u8], line: u8) -> Verdict {
+    let encoder = VaricodeEncoder::new();
+    let decoder = VaricodeDecoder::new();
+    let mut coders = Coders { encoder, decoder };
     let mut at = 0;
     loop {
         let end = at + find(&steps[at..], b' ');
-        let step = writer_step(encoder, step_of(&steps[at..end], b'w'));
+        let step = coders_step(coders, line, step_of(&steps[at..end], line));
         let verdict = step.verdict;
         let Verdict::Same = verdict else {
             return verdict;
@@ -50,8 +74,36 @@ pub fn writer_case(steps: &[u8]) -> Verdict {
         if end == steps.len() {
             return Verdict::Same;
         }
-        encoder = step.encoder;
+        coders = step.coders;
         at = end + 1;
+    }
+}
+
+// A step of the writer, or of the reader.
+fn coders_step(coders: Coders, line: u8, step: Step) -> Stepped {
+    let encoder = coders.encoder;
+    let decoder = coders.decoder;
+    if line == b'w' {
+        let written = writer_step(encoder, step);
+        let verdict = written.verdict;
+        let after = written.encoder;
+        return Stepped {
+            verdict,
+            coders: Coders {
+                encoder: after,
+                decoder,
+            },
+        };
+    }
+    let read = reader_step(decoder, step);
+    let verdict = read.verdict;
+    let after = read.decoder;
+    Stepped {
+        verdict,
+        coders: Coders {
+            encoder,
+            decoder: after,
+        },
     }
 }
 
@@ -88,25 +140,6 @@ fn pushed(encoder: VaricodeEncoder, letter: u8, argument: u64) -> Wrote {
         b'o' => encoder.push_preamble(argument as usize),
         b'c' => encoder.push_postamble(argument as usize),
         _ => encoder.push_byte(low(argument)),
-    }
-}
-
-// `r STEPS`: steps of a reader, parted by single spaces.
-pub fn reader_case(steps: &[u8]) -> Verdict {
-    let mut decoder = VaricodeDecoder::new();
-    let mut at = 0;
-    loop {
-        let end = at + find(&steps[at..], b' ');
-        let step = reader_step(decoder, step_of(&steps[at..end], b'r'));
-        let verdict = step.verdict;
-        let Verdict::Same = verdict else {
-            return verdict;
-        };
-        if end == steps.len() {
-            return Verdict::Same;
-        }
-        decoder = step.decoder;
-        at = end + 1;
     }
 }
 
@@ -237,7 +270,7 @@ fn refusal_verdict(got: Refusal, wanted: Refusal) -> Verdict
 }
 
 // Same where what is taken out is what is wanted; Differs otherwise.
-fn taken_verdict(got: Taken, wanted: Taken) -> Verdict
+pub fn taken_verdict(got: Taken, wanted: Taken) -> Verdict
     ensures equal { λ r. ⌜ (r ≡ Verdict.Same → got ≡ wanted) ⌝ }
     ensures same { λ r. ⌜ (got ≡ wanted → r ≡ Verdict.Same) ⌝ }
 {

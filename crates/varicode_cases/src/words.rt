@@ -2,6 +2,8 @@
 ghost use mathlib.Core.Path.{_≡_};
 ghost use Prim.Native.Nat.{_≤_};
 ghost use lib.ListN.{length};
+ghost use Rattle.varicode_cases.specs.Taken.{takenOf};
+use crate::queues::taken_verdict;
 use fields::Value;
 use fields::Verdict;
 use fields::count;
@@ -10,6 +12,7 @@ use fields::first;
 use fields::low;
 use fields::number;
 use fields::rest;
+use varicode::Taken;
 use varicode_words::Letter;
 
 // What a hit takes in the list of hits: a value of two bytes, upper first, and a byte.
@@ -66,8 +69,8 @@ fn looked_up(len: u8, hits: &[u8]) -> Verdict {
     while value < 0x1_0000 {
         let hit = hit_at(hits, at, value);
         let wanted = hit.letter;
-        let got = varicode_words::varicode_decode(value as u16, len);
-        let Verdict::Same = letter_verdict(got, wanted) else {
+        let got = taken_of(varicode_words::varicode_decode(value as u16, len));
+        let Verdict::Same = taken_verdict(got, wanted) else {
             return Verdict::Differs;
         };
         at = hit.next;
@@ -82,7 +85,7 @@ fn looked_up(len: u8, hits: &[u8]) -> Verdict {
 
 // What a value is to stand for, and the place of the first hit after it.
 struct Hit {
-    letter: Letter,
+    letter: Taken,
     next: usize,
 }
 
@@ -93,18 +96,18 @@ fn hit_at(hits: &[u8], at: usize, value: u32) -> Hit
 {
     if hits.len() - at < HIT {
         return Hit {
-            letter: Letter::Nothing,
+            letter: Taken::Nothing,
             next: at,
         };
     }
     if value_of(hits[at], hits[at + 1]) == value {
         Hit {
-            letter: Letter::Byte(hits[at + 2]),
+            letter: Taken::One(hits[at + 2]),
             next: at + HIT,
         }
     } else {
         Hit {
-            letter: Letter::Nothing,
+            letter: Taken::Nothing,
             next: at,
         }
     }
@@ -114,25 +117,12 @@ fn value_of(high: u8, low: u8) -> u32 {
     (high as u32) * 256 + (low as u32)
 }
 
-// Same where a lookup answers what is wanted; Differs otherwise.
-fn letter_verdict(got: Letter, wanted: Letter) -> Verdict
-    ensures equal { λ r. ⌜ (r ≡ Verdict.Same → got ≡ wanted) ⌝ }
-    ensures same { λ r. ⌜ (got ≡ wanted → r ≡ Verdict.Same) ⌝ }
+// What a lookup answers, as what is taken out of a queue: the two are compared in one way.
+fn taken_of(letter: Letter) -> Taken
+    ensures { λ r. ⌜ r ≡ takenOf letter ⌝ }
 {
-    match got {
-        Letter::Byte(g) => match wanted {
-            Letter::Byte(w) => {
-                if g == w {
-                    Verdict::Same
-                } else {
-                    Verdict::Differs
-                }
-            }
-            Letter::Nothing => Verdict::Differs,
-        },
-        Letter::Nothing => match wanted {
-            Letter::Byte(_) => Verdict::Differs,
-            Letter::Nothing => Verdict::Same,
-        },
+    match letter {
+        Letter::Byte(b) => Taken::One(b),
+        Letter::Nothing => Taken::Nothing,
     }
 }

@@ -24,8 +24,11 @@ cast-varicode-decode c = search needs
 varicode-decode-requires : tie.Need-varicode-decode-requires Inv-loop μ-loop
 varicode-decode-requires c κs = search needs
 
-letter-verdict-requires : tie.Need-letter-verdict-requires Inv-loop μ-loop
-letter-verdict-requires c κs = search needs
+taken-of-requires : tie.Need-taken-of-requires Inv-loop μ-loop
+taken-of-requires c κs = search needs
+
+taken-verdict-requires : tie.Need-taken-verdict-requires Inv-loop μ-loop
+taken-verdict-requires c κs = search needs
 
 enum-told : tie.Need-enum-told Inv-loop μ-loop
 enum-told c = search needs
@@ -58,7 +61,8 @@ looked-up-spec =
     hit-at-requires
     cast-varicode-decode
     varicode-decode-requires
-    letter-verdict-requires
+    taken-of-requires
+    taken-verdict-requires
     enum-told
     returns
     add-value

@@ -1,19 +1,22 @@
--- `varicode_cases::queues::reader_case` is safe and ends: each turn uses a step more.
+-- `varicode_cases::queues::steps_case` is safe and ends: each turn uses a step more.
 -- Assumes nothing.
 use Prim.Native.Nat.{_-_, _≤_}
 use lib.ListN.{length}
 use borrow.Author.Needs.{needs}
-use Rattle.varicode_cases.proofs.queues.reader_case.Statement.{statement}
-use Rattle.varicode_cases.proofs.queues.reader_case.Tie as tie
+use Rattle.varicode_cases.proofs.queues.steps_case.Statement.{statement}
+use Rattle.varicode_cases.proofs.queues.steps_case.Tie as tie
 
 abbrev Inv-loop : tie.InvT-loop
-Inv-loop steps decoder₀ at₀ decoder at = at ≤ length steps
+Inv-loop steps line coders₀ at₀ coders at = at ≤ length steps
 
 abbrev μ-loop : tie.MeasureT-loop
-μ-loop steps decoder₀ at₀ decoder at = length steps - at
+μ-loop steps line coders₀ at₀ coders at = length steps - at
 
 new-requires : tie.Need-new-requires Inv-loop μ-loop
 new-requires c κs = search needs
+
+new-requires-2 : tie.Need-new-requires-2 Inv-loop μ-loop
+new-requires-2 c κs = search needs
 
 loop-holds : tie.Need-loop-holds Inv-loop μ-loop
 loop-holds c = search needs
@@ -45,8 +48,8 @@ part-step-of-end c = search needs
 step-of-requires : tie.Need-step-of-requires Inv-loop μ-loop
 step-of-requires c κs = search needs
 
-reader-step-requires : tie.Need-reader-step-requires Inv-loop μ-loop
-reader-step-requires c κs = search needs
+coders-step-requires : tie.Need-coders-step-requires Inv-loop μ-loop
+coders-step-requires c κs = search needs
 
 enum-told : tie.Need-enum-told Inv-loop μ-loop
 enum-told c = search needs
@@ -66,13 +69,14 @@ loop-less c = search needs
 loop-again : tie.Need-loop-again Inv-loop μ-loop
 loop-again c = search needs
 
-pub reader-case-spec : {M : Type 1} → statement M
-reader-case-spec =
+pub steps-case-spec : {M : Type 1} → statement M
+steps-case-spec =
     tie.close
     (tie.spec
     Inv-loop
     μ-loop
     new-requires
+    new-requires-2
     loop-holds
     sub-find
     part-find-start
@@ -83,7 +87,7 @@ reader-case-spec =
     part-step-of-start
     part-step-of-end
     step-of-requires
-    reader-step-requires
+    coders-step-requires
     enum-told
     returns
     returns-2
