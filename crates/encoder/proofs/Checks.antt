@@ -2,7 +2,7 @@
 use mathlib.Core.Bool.{Bool, true, false, not}
 use mathlib.Core.List.{List}
 use mathlib.Core.Path.{_≡_, refl, sym, ap, _∙_}
-use Prim.Native.Nat.{ℕ, _≤_, _<_}
+use Prim.Native.Nat.{ℕ, _*_, _≤_, _<_}
 use native.Mathlib.Omega.{arith}
 use borrow.Author.Tests.{lt-ltb, le-ltb, ltb-false}
 use lib.Dec.{ltb}
@@ -13,7 +13,7 @@ use Rattle.refusal.specs.Answer.{Said, accepted, refused, countSaid, refuseWhen
 use Rattle.refusal.specs.Lent.{leaves}
 use Rattle.refusal.specs.Limits.{most}
 use Rattle.trellis.specs.Choice.{knownCode, knownRate}
-use Rattle.encoder.specs.Encode.{lengthOf, written, lengthSaid, encodeSaid}
+use Rattle.encoder.specs.Encode.{lengthOf, written, lengthSaid, encodeSaid, plainSaid}
 
 abbrev three : Bool → Bool → Bool → Said ℕ → Said ℕ
 three a b c rest = refuseWhen a 1 (refuseWhen b 2 (refuseWhen c 3 rest))
@@ -74,3 +74,20 @@ module _ (code rate count : ℕ) (answer : Counted) (told : countSaid answer ≡
   pub kept-too :
       (r : Refusal) → answer ≡ counted.Refused r → (room : ℕ) (new old : List ℕ) → old ≡ leaves (encodeSaid code rate count room) new old
   kept-too r e room new old = rw (refused-too r e room, e)
+
+-- ---- the plain encoder
+
+pub plain-many : (count room : ℕ) → most < count → plainSaid count room ≡ refused 3 0
+unfolding plainSaid
+plain-many count room h = ap (λ (b : Bool). refuseWhen b 3 (written (2 * count) room)) (lt-ltb most count h)
+
+-- what is not too much is only checked for room
+plain-few : (count room : ℕ) → count ≤ most → plainSaid count room ≡ written (2 * count) room
+unfolding plainSaid
+plain-few count room h = ap (λ (b : Bool). refuseWhen b 3 (written (2 * count) room)) (le-ltb most count h)
+
+pub plain-short : (count room : ℕ) → count ≤ most → room < 2 * count → plainSaid count room ≡ refused 4 0
+plain-short count room few h = plain-few count room few ∙ ap (λ (b : Bool). refuseWhen b 4 (accepted (2 * count))) (lt-ltb room (2 * count) h)
+
+pub plain-fits : (count room : ℕ) → count ≤ most → 2 * count ≤ room → plainSaid count room ≡ accepted (2 * count)
+plain-fits count room few h = plain-few count room few ∙ ap (λ (b : Bool). refuseWhen b 4 (accepted (2 * count))) (le-ltb room (2 * count) h)

@@ -67,6 +67,10 @@ pub record Called (input bytes : List ℕ) (asked : ℕ) (answer : Decoded) : Ty
   pub behind : bytes ≡ drop 4 input
   pub says : wordSaid answer ≡ decodeSaid (codeIn input) (rateIn input) asked (allOfBytes bytes) 1000 64384
 
+-- what is asked for, where the count n that was read is the input's
+pub asks-count : (input : List ℕ) (asked n : ℕ) → asked ≡ cond (ltb 1000 n) 4097 n → n ≡ infoIn input → asked ≡ cond (ltb 1000 (infoIn input)) 4097 (infoIn input)
+asks-count input asked n e f = e ∙ ap (λ (m : ℕ). cond (ltb 1000 m) 4097 m) f
+
 module _ {input bytes : List ℕ} {asked : ℕ} {answer : Decoded} (call : Called input bytes asked answer) where
   asked-few : infoIn input ≤ 1000 → asked ≡ infoIn input
   asked-few h = call .asks ∙ rw (le-ltb 1000 (infoIn input) h)

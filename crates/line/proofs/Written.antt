@@ -1,6 +1,6 @@
 -- A text written to a list element by element, and texts behind one another. Assumes nothing.
 use mathlib.Core.List.{List, [], _∷_, _++_, map}
-use mathlib.Core.Path.{_≡_, refl, ap}
+use mathlib.Core.Path.{_≡_, refl, ap, _∙_}
 use Prim.Native.Nat.{ℕ, _+_, _-_, _≤_, _<_}
 use native.Mathlib.Numerals.{add-one}
 use native.Mathlib.Omega.{arith}
@@ -73,3 +73,10 @@ pub count-within : (text : List ℕ) (l : Line) → Holds text l → l .count �
 unfolding over
 count-within text l h =
     omega (arith, h .count, ap (λ (b : List ℕ). length b) (h .bytes), length-append text (drop (length text) zeros))
+
+-- a text that was put is the text that was meant
+pub put-to : (at r : ℕ) (put meant : List ℕ) → r ≡ at + length put → put ≡ meant → r ≡ at + length meant
+put-to at r put meant e f = e ∙ ap (λ (l : List ℕ). at + length l) f
+
+pub put-as : (out new : List ℕ) (at : ℕ) (put meant : List ℕ) → new ≡ with-text out at put → put ≡ meant → new ≡ with-text out at meant
+put-as out new at put meant e f = e ∙ ap (with-text out at) f

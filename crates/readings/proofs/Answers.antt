@@ -1,20 +1,23 @@
 -- The refusals in their order, and which readings are used. Assumes nothing.
+use mathlib.Core.Bool.{Bool, not, cond}
 use mathlib.Core.List.{List, _++_}
-use mathlib.Core.Path.{_≡_, refl, sym, ap, _∙_}
+use mathlib.Core.Path.{_≡_, refl, sym, ap, ap₂, _∙_}
 use Prim.Native.Nat.{ℕ, _+_, _*_, _^_, _≤_, _<_}
 use native.Mathlib.Decide.{decLt}
 use native.Mathlib.Omega.{arith}
 use borrow.Author.Tests.{lt-ltb, le-ltb}
+use lib.Dec.{ltb}
 use lib.Ieee.{Float}
 use lib.ListN.{length, take, drop}
 use lib.Seq.{take-all, length-take-le}
 use Rattle.encoder.specs.Encode.{lengthOf}
+use Rattle.best_path.proofs.Candidates.{where-true, where-false}
 use Rattle.best_path.proofs.Rows.{length-rows}
-use Rattle.refusal.specs.Answer.{Said, accepted, refused}
+use Rattle.refusal.specs.Answer.{Said, accepted, refused, refuseWhen}
 use Rattle.refusal.specs.Lent.{over, leaves}
 use Rattle.refusal.specs.Limits.{most}
 use Rattle.trellis.specs.declared.ConvCode.{ConvCode}
-use Rattle.trellis.specs.Choice.{codeOf, patternOf}
+use Rattle.trellis.specs.Choice.{knownRate, codeOf, patternOf}
 use Rattle.trellis.specs.Codeword.{stepsOf}
 use Rattle.trellis.specs.Keep.{Keep}
 use Rattle.trellis.proofs.Chosen.{rate-pattern}
@@ -22,7 +25,7 @@ use Rattle.trellis.proofs.Kept.{coded-le}
 use Rattle.readings.specs.Used.{firstBad}
 use Rattle.readings.specs.Decode.{word, score, filledRows}
 use Rattle.readings.specs.Post.{UsedOf}
-use Rattle.readings.specs.Said.{mostReadings, survivorsOf, decodeSaid}
+use Rattle.readings.specs.Said.{mostReadings, survivorsOf, examined, decodeSaid}
 use Rattle.readings.proofs.Rows.{length-word}
 use Rattle.readings.proofs.Steps.{rows-filled}
 use Rattle.readings.proofs.Selected.{code-width}
@@ -59,61 +62,70 @@ module _ (code rate info : ℕ) (readings : List Float) (room scratch : ℕ) whe
   abbrev said : Said Float
   said = decodeSaid code rate info readings room scratch
 
+  -- what is still tested once the tests before have passed
+  abbrev readings-tested : Said Float
+  readings-tested = examined (take (lengthOf code rate info) readings) (accepted (score (codeOf code) (patternOf rate) readings info))
+
+  abbrev scratch-tested : Said Float
+  scratch-tested = refuseWhen (ltb scratch (survivorsOf code info)) 5 readings-tested
+
+  abbrev room-tested : Said Float
+  room-tested = refuseWhen (ltb room info) 4 scratch-tested
+
+  abbrev count-tested : Said Float
+  count-tested = refuseWhen (ltb most info) 3 room-tested
+
+  abbrev rate-tested : Said Float
+  rate-tested = refuseWhen (not (knownRate rate)) 2 count-tested
+
   pub no-code : 2 ≤ code → said ≡ refused 1 0
   unfolding decodeSaid
-  no-code h = rw (le-ltb code 2 h)
+  no-code h = ap (λ (b : Bool). refuseWhen (not b) 1 rate-tested) (le-ltb code 2 h)
 
   module _ (a : code < 2) where
-    pub no-rate : 5 ≤ rate → said ≡ refused 2 0
+    code-known : said ≡ rate-tested
     unfolding decodeSaid
-    no-rate h = rw (lt-ltb code 2 a, le-ltb rate 5 h)
+    code-known = ap (λ (b : Bool). refuseWhen (not b) 1 rate-tested) (lt-ltb code 2 a)
+
+    pub no-rate : 5 ≤ rate → said ≡ refused 2 0
+    no-rate h = code-known ∙ ap (λ (b : Bool). refuseWhen (not b) 2 count-tested) (le-ltb rate 5 h)
 
     module _ (b : rate < 5) where
+      rate-known : said ≡ count-tested
+      rate-known = code-known ∙ ap (λ (b : Bool). refuseWhen (not b) 2 count-tested) (lt-ltb rate 5 b)
+
       pub too-many : 4096 < info → said ≡ refused 3 0
-      unfolding decodeSaid
-      too-many h = rw (lt-ltb code 2 a, lt-ltb rate 5 b, lt-ltb 4096 info h)
+      too-many h = rate-known ∙ ap (λ (b : Bool). refuseWhen b 3 room-tested) (lt-ltb most info h)
 
       module _ (c : info ≤ 4096) where
+        not-too-many : said ≡ room-tested
+        not-too-many = rate-known ∙ ap (λ (b : Bool). refuseWhen b 3 room-tested) (le-ltb most info c)
+
         pub no-room : room < info → said ≡ refused 4 0
-        unfolding decodeSaid
-        no-room h = rw (lt-ltb code 2 a, lt-ltb rate 5 b, le-ltb 4096 info c, lt-ltb room info h)
+        no-room h = not-too-many ∙ ap (λ (b : Bool). refuseWhen b 4 scratch-tested) (lt-ltb room info h)
 
         module _ (d : info ≤ room) where
+          room-enough : said ≡ scratch-tested
+          room-enough = not-too-many ∙ ap (λ (b : Bool). refuseWhen b 4 scratch-tested) (le-ltb room info d)
+
           pub no-scratch : scratch < survivorsOf code info → said ≡ refused 5 0
-          unfolding decodeSaid
-          no-scratch h = rw (lt-ltb code 2 a, lt-ltb rate 5 b, le-ltb 4096 info c, le-ltb room info d, lt-ltb scratch (survivorsOf code info) h)
+          no-scratch h = room-enough ∙ ap (λ (b : Bool). refuseWhen b 5 readings-tested) (lt-ltb scratch (survivorsOf code info) h)
 
           module _ (e : survivorsOf code info ≤ scratch) (used bad : ℕ) (is : UsedOf (lengthOf code rate info) (length readings) used) (of-bad : bad ≡ firstBad (take used readings)) where
-            first-is : firstBad (take (lengthOf code rate info) readings) ≡ bad
-            first-is = sym (of-bad ∙ ap firstBad (used-taken (lengthOf code rate info) used readings is))
+            -- the test of the readings, as the code makes it
+            scratch-enough : said ≡ cond (ltb bad used) (refused 6 bad) (accepted (score (codeOf code) (patternOf rate) readings info))
+            scratch-enough =
+                room-enough
+                ∙ ap (λ (b : Bool). refuseWhen b 5 readings-tested) (le-ltb scratch (survivorsOf code info) e)
+                ∙ ap₂ (λ (i n : ℕ). cond (ltb i n) (refused 6 i) (accepted (score (codeOf code) (patternOf rate) readings info)))
+                (sym (of-bad ∙ ap firstBad (used-taken (lengthOf code rate info) used readings is)))
+                (used-counted (lengthOf code rate info) used readings is)
 
             pub bad-reading : bad < used → said ≡ refused 6 bad
-            unfolding decodeSaid
-            bad-reading h =
-                rw (
-                  lt-ltb code 2 a,
-                  lt-ltb rate 5 b,
-                  le-ltb 4096 info c,
-                  le-ltb room info d,
-                  le-ltb scratch (survivorsOf code info) e,
-                  first-is,
-                  used-counted (lengthOf code rate info) used readings is,
-                  lt-ltb bad used h,
-                )
+            bad-reading h = scratch-enough ∙ sym (where-true (ltb bad used) _ _ (lt-ltb bad used h))
 
             pub good-readings : used ≤ bad → said ≡ accepted (score (codeOf code) (patternOf rate) readings info)
-            unfolding decodeSaid
-            good-readings h =
-                rw (
-                  lt-ltb code 2 a,
-                  lt-ltb rate 5 b,
-                  le-ltb 4096 info c,
-                  le-ltb room info d,
-                  le-ltb scratch (survivorsOf code info) e,
-                  first-is,
-                  used-counted (lengthOf code rate info) used readings is,
-                  le-ltb bad used h,
-                )
+            good-readings h = scratch-enough ∙ sym (where-false (ltb bad used) _ _ (le-ltb bad used h))
 
 -- ---- what is left
 

@@ -9,7 +9,7 @@ use borrow.Author.Tests.{not-true, not-false}
 use lib.ListN.{length, take, drop}
 use lib.Seq.{length-take-le}
 use Rattle.line.specs.Line.{shaped, infoIn}
-use Rattle.line.proofs.Decoding.{shaped-long, unshaped-said, output-refused, Called, refused-output, info-few, word-output}
+use Rattle.line.proofs.Decoding.{shaped-long, unshaped-said, output-refused, Called, asks-count, refused-output, info-few, word-output}
 use Rattle.line.proofs.Written.{rest-taken}
 use Rattle.line.proofs.answer.Statement.{statement}
 use Rattle.line.proofs.answer.Tie as tie
@@ -102,7 +102,7 @@ module _ (c : tie.After-viterbi-decode-bytes) where
   call =
       record {
         is = is (c .before .before .before .before .before .before .before .before .before);
-        asks = c .before .before .before .before .asked .ensures;
+        asks = asks-count given (c .before .before .before .before .asked .result) _ (c .before .before .before .before .asked .ensures) refl;
         behind = rest-taken given 4 (length given) refl;
         says = c .viterbi-decode-bytes .ensures .0;
       }

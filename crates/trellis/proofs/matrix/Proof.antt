@@ -1,5 +1,6 @@
 -- `trellis::matrix`: its five arms. Assumes nothing.
-use mathlib.Core.Path.{ap}
+use mathlib.Core.Path.{sym, ap}
+use Prim.Native.Nat.{ℕ}
 use Rattle.trellis.specs.Choice.{patternOf, heldOf}
 use Rattle.trellis.proofs.Chosen.{rate-other}
 use Rattle.trellis.proofs.matrix.Statement.{statement}
@@ -7,19 +8,19 @@ use Rattle.trellis.proofs.matrix.Tie as tie
 
 returns : tie.Need-returns
 unfolding patternOf heldOf
-returns c = rw (c .match .keys1)
+returns c = sym (ap (λ (n : ℕ). heldOf (patternOf n)) (c .match .keys1))
 
 returns-2 : tie.Need-returns-2
 unfolding patternOf heldOf
-returns-2 c = rw (c .match .keys2)
+returns-2 c = sym (ap (λ (n : ℕ). heldOf (patternOf n)) (c .match .keys2))
 
 returns-3 : tie.Need-returns-3
 unfolding patternOf heldOf
-returns-3 c = rw (c .match .keys3)
+returns-3 c = sym (ap (λ (n : ℕ). heldOf (patternOf n)) (c .match .keys3))
 
 returns-4 : tie.Need-returns-4
 unfolding patternOf heldOf
-returns-4 c = rw (c .match .keys4)
+returns-4 c = sym (ap (λ (n : ℕ). heldOf (patternOf n)) (c .match .keys4))
 
 returns-5 : tie.Need-returns-5
 unfolding heldOf

@@ -1,4 +1,5 @@
 -- `varicode::count_up`: below 11 one more, else 11. Assumes nothing.
+use native.Mathlib.Omega.{arith}
 use borrow.Author.Needs.{needs}
 use Rattle.varicode.proofs.count_up.Statement.{statement}
 use Rattle.varicode.proofs.count_up.Tie as tie
@@ -7,10 +8,10 @@ add-result : tie.Need-add-result
 add-result c = search needs
 
 returns : tie.Need-returns
-returns c = search needs
+returns c = omega arith
 
 returns-2 : tie.Need-returns-2
-returns-2 c = search needs
+returns-2 c = omega arith
 
 pub count-up-spec : {M : Type 1} → statement M
 count-up-spec = tie.close (tie.spec add-result returns returns-2)

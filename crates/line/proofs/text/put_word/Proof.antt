@@ -7,7 +7,7 @@ use borrow.Author.Needs.{needs}
 use lib.ListN.{length, set, length-set, length-map, List·getD-map}
 use lib.Seq.{paste, paste-zero}
 use Rattle.line.specs.Text.{bitText, wordText}
-use Rattle.line.proofs.Written.{with-text, one-pasted, all-pasted, empty-text, bits-text}
+use Rattle.line.proofs.Written.{with-text, put-to, put-as, one-pasted, all-pasted, empty-text, bits-text}
 use Rattle.line.proofs.text.put_word.Statement.{statement}
 use Rattle.line.proofs.text.put_word.Tie as tie
 
@@ -33,8 +33,8 @@ returns c =
     let put = c .before .before .put in
     let args = c .before .before .before .before .before .before .before .before .args in
     let text = empty-text (args .word .now) (c .before .before .before .before .before .if1 .taken) in (
-      put .ensures .0 ∙ ap (λ (l : List ℕ). args .at + length l) (sym text),
-      put .ensures .1 ∙ ap (with-text (args .out .now) (args .at)) (sym text),
+      put-to (args .at) (put .result) _ (wordText (args .word .now)) (put .ensures .0) (sym text),
+      put-as (args .out .now) _ (args .at) _ (wordText (args .word .now)) (put .ensures .1) (sym text),
     )
 
 -- the word has bits
