@@ -1,4 +1,6 @@
 // The cases of the block decoders.
+ghost use mathlib.Core.Path.{_≡_};
+ghost use Rattle.block_cases.specs.Decoded.{Block, Decodes, Symbols, DecodesSymbols, SymbolsCall};
 use crate::encoders::Begun;
 use crate::encoders::Head;
 use crate::encoders::head_of;
@@ -7,7 +9,7 @@ use fields::Value;
 use fields::Verdict;
 use fields::compared;
 use fields::count;
-use fields::fill;
+use fields::fill_three;
 use fields::first;
 use fields::number;
 use fields::rest;
@@ -18,7 +20,9 @@ use refusal::word_number;
 
 // `b CC RR ANSWER COUNT READINGS OUT SCRATCH`: code, rate, the answer, the info count, the bytes of the
 // readings, the whole output, the whole scratch.
-pub fn block_case(fields: &[u8], given: &mut [u8], wanted: &mut [u8], out: &mut [u8]) -> Verdict {
+pub fn block_case(fields: &[u8], given: &mut [u8], wanted: &mut [u8], out: &mut [u8]) -> Verdict
+    ensures { λ r. ⌜ (r ≡ Verdict.Same → Block (now (fields .entry))) ⌝ }
+{
     let Begun::With(head) = head_of(fields) else {
         return Verdict::Malformed;
     };
@@ -57,32 +61,12 @@ fn block_lists(
     out: &mut [u8],
     wanted_rows: &mut [u8],
     rows: &mut [u8],
-) -> Verdict {
-    if fill_all(lists, readings, wanted, wanted_rows) {
-        block_run(head, info, readings, wanted, out, wanted_rows, rows)
-    } else {
-        Verdict::Malformed
+) -> Verdict
+    ensures { λ r. ⌜ (r ≡ Verdict.Same → Decodes head info (now (lists .entry))) ⌝ }
+{
+    if !fill_three(lists, readings, wanted, wanted_rows) {
+        return Verdict::Malformed;
     }
-}
-
-// Fills each with what its list spells, and answers whether all of them do.
-fn fill_all(lists: &[u8], readings: &mut [u8], wanted: &mut [u8], wanted_rows: &mut [u8]) -> bool {
-    let first_good = fill(first(lists), readings);
-    let second_good = fill(first(rest(lists)), wanted);
-    let third_good = fill(rest(rest(lists)), wanted_rows);
-    first_good & second_good & third_good
-}
-
-// The call itself.
-fn block_run(
-    head: Head,
-    info: usize,
-    readings: &[u8],
-    wanted: &[u8],
-    out: &mut [u8],
-    wanted_rows: &[u8],
-    rows: &mut [u8],
-) -> Verdict {
     untouch(out);
     untouch(rows);
     let answer = readings::viterbi_decode_bytes(head.code, readings, info, head.rate, out, rows);
@@ -100,7 +84,9 @@ pub fn symbols_case(
     given: &mut [u8],
     wanted: &mut [u8],
     out: &mut [u8],
-) -> Verdict {
+) -> Verdict
+    ensures { λ r. ⌜ (r ≡ Verdict.Same → Symbols hard (now (fields .entry))) ⌝ }
+{
     let Value::Is(answer) = number(first(fields), 16) else {
         return Verdict::Malformed;
     };
@@ -135,23 +121,12 @@ fn symbols_lists(
     out: &mut [u8],
     wanted_rows: &mut [u8],
     rows: &mut [u8],
-) -> Verdict {
-    if fill_all(lists, given, wanted, wanted_rows) {
-        symbols_run(hard, answer, given, wanted, out, wanted_rows, rows)
-    } else {
-        Verdict::Malformed
+) -> Verdict
+    ensures { λ r. ⌜ (r ≡ Verdict.Same → DecodesSymbols hard answer (now (lists .entry))) ⌝ }
+{
+    if !fill_three(lists, given, wanted, wanted_rows) {
+        return Verdict::Malformed;
     }
-}
-
-fn symbols_run(
-    hard: bool,
-    answer: u64,
-    given: &[u8],
-    wanted: &[u8],
-    out: &mut [u8],
-    wanted_rows: &[u8],
-    rows: &mut [u8],
-) -> Verdict {
     untouch(out);
     untouch(rows);
     let got = symbols_decoded(hard, given, out, rows);
@@ -165,7 +140,9 @@ fn symbols_run(
 const COMPONENTS: usize = 8195;
 
 // The call itself.
-fn symbols_decoded(hard: bool, given: &[u8], out: &mut [u8], rows: &mut [u8]) -> Counted {
+fn symbols_decoded(hard: bool, given: &[u8], out: &mut [u8], rows: &mut [u8]) -> Counted
+    ensures { λ r. ⌜ SymbolsCall hard (now (given .entry)) (now (out .entry)) (now (rows .entry)) r (now (out .exit)) (now (rows .exit)) ⌝ }
+{
     if hard {
         return symbols::viterbi_decode_hard(given, out, rows);
     }

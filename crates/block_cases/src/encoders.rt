@@ -1,10 +1,12 @@
 // The three kinds of case of the encoders. Each function takes what follows the letter of its line,
 // and room for the lists of the line: what is given, what is wanted, and the output itself.
+ghost use mathlib.Core.Path.{_≡_};
+ghost use Rattle.block_cases.specs.Encoded.{Begins, Encodes, Punctured, EncodesPlain, Plain, Length};
 use fields::Value;
 use fields::Verdict;
 use fields::compared;
 use fields::count;
-use fields::fill;
+use fields::fill_two;
 use fields::first;
 use fields::low;
 use fields::number;
@@ -25,7 +27,9 @@ pub enum Begun {
 }
 
 // `CC RR ANSWER`, the first three fields.
-pub fn head_of(fields: &[u8]) -> Begun {
+pub fn head_of(fields: &[u8]) -> Begun
+    ensures { λ r. ⌜ Begins (now (fields .entry)) r ⌝ }
+{
     let Value::Is(code) = number(first(fields), 2) else {
         return Begun::Bad;
     };
@@ -44,12 +48,9 @@ pub fn head_of(fields: &[u8]) -> Begun {
 }
 
 // `e CC RR ANSWER INFO OUT`: code, rate, the answer, the info bytes, the whole output.
-pub fn punctured_case(
-    fields: &[u8],
-    given: &mut [u8],
-    wanted: &mut [u8],
-    out: &mut [u8],
-) -> Verdict {
+pub fn punctured_case(fields: &[u8], given: &mut [u8], wanted: &mut [u8], out: &mut [u8]) -> Verdict
+    ensures { λ r. ⌜ (r ≡ Verdict.Same → Punctured (now (fields .entry))) ⌝ }
+{
     let Begun::With(head) = head_of(fields) else {
         return Verdict::Malformed;
     };
@@ -75,11 +76,10 @@ fn punctured_run(
     info: &mut [u8],
     wanted: &mut [u8],
     out: &mut [u8],
-) -> Verdict {
-    if !fill(first(lists), info) {
-        return Verdict::Malformed;
-    }
-    if !fill(rest(lists), wanted) {
+) -> Verdict
+    ensures { λ r. ⌜ (r ≡ Verdict.Same → Encodes head (now (lists .entry))) ⌝ }
+{
+    if !fill_two(lists, info, wanted) {
         return Verdict::Malformed;
     }
     untouch(out);
@@ -88,7 +88,9 @@ fn punctured_run(
 }
 
 // `p ANSWER BITS OUT`: the answer, the input bits, the whole output.
-pub fn plain_case(fields: &[u8], given: &mut [u8], wanted: &mut [u8], out: &mut [u8]) -> Verdict {
+pub fn plain_case(fields: &[u8], given: &mut [u8], wanted: &mut [u8], out: &mut [u8]) -> Verdict
+    ensures { λ r. ⌜ (r ≡ Verdict.Same → Plain (now (fields .entry))) ⌝ }
+{
     let Value::Is(answer) = number(first(fields), 16) else {
         return Verdict::Malformed;
     };
@@ -113,11 +115,10 @@ fn plain_run(
     bits: &mut [u8],
     wanted: &mut [u8],
     out: &mut [u8],
-) -> Verdict {
-    if !fill(first(lists), bits) {
-        return Verdict::Malformed;
-    }
-    if !fill(rest(lists), wanted) {
+) -> Verdict
+    ensures { λ r. ⌜ (r ≡ Verdict.Same → EncodesPlain stored (now (lists .entry))) ⌝ }
+{
+    if !fill_two(lists, bits, wanted) {
         return Verdict::Malformed;
     }
     untouch(out);
@@ -126,7 +127,9 @@ fn plain_run(
 }
 
 // `l CC RR ANSWER COUNT`: code, rate, the answer, the info count. There is no output to compare.
-pub fn length_case(fields: &[u8]) -> Verdict {
+pub fn length_case(fields: &[u8]) -> Verdict
+    ensures { λ r. ⌜ (r ≡ Verdict.Same → Length (now (fields .entry))) ⌝ }
+{
     let Begun::With(head) = head_of(fields) else {
         return Verdict::Malformed;
     };

@@ -1,5 +1,5 @@
 -- What one more digit, or one more pair of digits, adds to what a field spells. Assumes nothing.
-use mathlib.Core.Path.{_≡_, refl, sym, ap, _∙_}
+use mathlib.Core.Path.{_≡_, refl, sym, ap, subst, _∙_}
 use mathlib.Core.List.{List, [], _∷_, _++_, append-assoc}
 use Prim.Native.Nat.{ℕ, suc, _+_, _-_, _*_, _/_, _%_, _^_, _≤_, _<_}
 use native.Mathlib.Nat.{pow-suc, pow-le-pow-right, le-trans, zero-lt-suc}
@@ -10,7 +10,9 @@ use lib.ListN.{length, take, getD, set}
 use lib.Seq.{take-suc, take-suc-set, take-all}
 use borrow.Author.Tests.{lt-ltb, le-ltb}
 use Rattle.io.specs.Digits.{glyph, digits}
-use Rattle.fields.specs.Spelling.{pairs, bytesSpelt}
+use Rattle.fields.specs.Spelling.{numberSpelt, Spells, pairs, bytesSpelt}
+use Rattle.fields.specs.declared.Value.{Value}
+use Rattle.fields.specs.declared.Value.the-variants.{Is}
 
 -- the bytes 0 to 9, and from a on, are the glyphs of their values
 pub glyph-low : (c : ℕ) → 48 ≤ c → c ≤ 57 → c ≡ glyph (c - 48)
@@ -106,3 +108,17 @@ pub digits-all :
 digits-all field i width v h l n e =
     let same : i ≡ width = omega arith in
     sym (take-all i field l) ∙ (e ∙ ap (λ (k : ℕ). digits 16 k v) same)
+
+-- and the value is one of so many digits
+pub value-all : (i width v : ℕ) → i ≡ width → v < 16 ^ i → v < 16 ^ width
+value-all i width v same e = rw (← same) e
+
+-- a number that was read is spelt
+pub number-read : (field : List ℕ) (width : ℕ) (value : Value) (v : ℕ) → Spells field width value → value ≡ Is v → (field ≡ numberSpelt width v) × (v < 16 ^ width)
+number-read field width value v spelt e = subst (Spells field width) e spelt
+
+-- a number of two digits as a byte is spelt as before
+pub byte-spelt : (field : List ℕ) (v b : ℕ) → (field ≡ numberSpelt 2 v) × (v < 16 ^ 2) → b ≡ v % 256 → field ≡ numberSpelt 2 b
+byte-spelt field v b spelt e =
+    let same : v ≡ b = omega (arith, spelt .1) in
+    spelt .0 ∙ ap (numberSpelt 2) same

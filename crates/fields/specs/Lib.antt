@@ -1,2 +1,2 @@
--- Spelling: what a field of hex digits spells.
+-- Spelling: a line's fields, and what a field of hex digits spells.
 pub mod Spelling

@@ -6,7 +6,7 @@ ghost use mathlib.Core.List.{[], _∷_};
 ghost use Prim.Native.Nat.{ℕ, _/_, _%_, _≤_, _<_};
 ghost use lib.ListN.{length, getD, replicate};
 ghost use Rattle.io.specs.Digits.{glyph};
-ghost use Rattle.fields.specs.Spelling.{Spells, bytesSpelt};
+ghost use Rattle.fields.specs.Spelling.{firstField, laterFields, Fields, Spells, bytesSpelt};
 
 // A line of which a list has more bytes than this is no case: 4,096 symbols leave 65,536 survivors.
 pub const MOST: usize = 65552;
@@ -41,14 +41,18 @@ pub fn find(text: &[u8], b: u8) -> usize
 }
 
 // The field at the front of `line`, which ends at a space or with the line.
-pub fn first(line: &[u8]) -> &[u8] {
+pub fn first(line: &[u8]) -> &[u8]
+    ensures { λ r. ⌜ now r ≡ firstField (now (line .entry)) ⌝ }
+{
     let end = find(line, b' ');
     &line[0..end]
 }
 
 // What follows the space after the first field; nothing where there is no space, and nothing is no
 // field, so a missing field is found bad by whoever reads it.
-pub fn rest(line: &[u8]) -> &[u8] {
+pub fn rest(line: &[u8]) -> &[u8]
+    ensures { λ r. ⌜ now r ≡ laterFields (now (line .entry)) ⌝ }
+{
     let end = find(line, b' ');
     if end < line.len() {
         &line[end + 1..]
@@ -104,12 +108,16 @@ pub fn number(field: &[u8], width: usize) -> Value
 }
 
 // A number of two digits as a byte: nothing is lost.
-pub fn low(n: u64) -> u8 {
+pub fn low(n: u64) -> u8
+    ensures { λ r. ⌜ r ≡ n % 256 ⌝ }
+{
     (n % 256) as u8
 }
 
 // How many bytes a field spells, if it spells any: two digits make a byte, and `-` says none.
-pub fn count(field: &[u8]) -> usize {
+pub fn count(field: &[u8]) -> usize
+    ensures { λ r. ⌜ r ≡ length (now (field .entry)) / 2 ⌝ }
+{
     field.len() / 2
 }
 
@@ -134,6 +142,22 @@ pub fn fill(field: &[u8], into: &mut [u8]) -> bool
         i += 1;
     }
     true
+}
+
+// The same of the two lists that a line ends with.
+pub fn fill_two(lists: &[u8], one: &mut [u8], two: &mut [u8]) -> bool
+    ensures { λ r. ⌜ (r ≡ true → Fields (now (lists .entry)) (bytesSpelt (now (one .exit)) ∷ (bytesSpelt (now (two .exit)) ∷ []))) ⌝ }
+{
+    let good = fill(first(lists), one);
+    fill(rest(lists), two) & good
+}
+
+// The same of three lists.
+pub fn fill_three(lists: &[u8], one: &mut [u8], two: &mut [u8], three: &mut [u8]) -> bool
+    ensures { λ r. ⌜ (r ≡ true → Fields (now (lists .entry)) (bytesSpelt (now (one .exit)) ∷ (bytesSpelt (now (two .exit)) ∷ (bytesSpelt (now (three .exit)) ∷ [])))) ⌝ }
+{
+    let good = fill(first(lists), one);
+    fill_two(rest(lists), two, three) & good
 }
 
 // Marks every byte of an output, so that one that the call leaves alone can be told.

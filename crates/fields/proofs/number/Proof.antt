@@ -5,7 +5,7 @@ use Prim.Native.Nat.{_-_, _^_, _≤_, _<_}
 use native.Mathlib.Omega.{arith}
 use lib.ListN.{length, take}
 use Rattle.io.specs.Digits.{digits}
-use Rattle.fields.proofs.Hex.{digits-more, value-more, value-fits, digits-all}
+use Rattle.fields.proofs.Hex.{digits-more, value-more, value-fits, digits-all, value-all}
 use borrow.Author.Needs.{needs}
 use Rattle.fields.proofs.number.Statement.{statement}
 use Rattle.fields.proofs.number.Tie as tie
@@ -63,7 +63,10 @@ loop-again c =
 returns-3 : tie.Need-returns-3 Inv-loop μ-loop
 returns-3 c =
     let l = c .before .loop in
-    digits-all _ (l .i) _ (l .value) (l .inv .0) (c .loop-test .left) (c .before .before .if1 .left) (l .inv .2)
+    let all = c .before .before .if1 .left in (
+      digits-all _ (l .i) _ (l .value) (l .inv .0) (c .loop-test .left) all (l .inv .2),
+      value-all (l .i) _ (l .value) (omega arith) (l .inv .1),
+    )
 
 pub number-spec : {M : Type 1} → statement M
 number-spec =

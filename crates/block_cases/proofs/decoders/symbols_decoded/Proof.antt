@@ -2,7 +2,7 @@
 use mathlib.Core.Path.{sym}
 use borrow.Author.Needs.{needs}
 use lib.Seq.{length-take-le}
-use Rattle.block_cases.proofs.Components.{components-within}
+use Rattle.block_cases.proofs.Components.{components-within, front-is-components, call-on-components, call-of-form}
 use Rattle.block_cases.proofs.decoders.symbols_decoded.Statement.{statement}
 use Rattle.block_cases.proofs.decoders.symbols_decoded.Tie as tie
 
@@ -16,7 +16,9 @@ same-length-2 : tie.Need-same-length-2
 same-length-2 c = search needs
 
 returns : tie.Need-returns
-returns c = search needs
+returns c =
+    let call = c .before .before .before .before .viterbi-decode-hard .ensures in
+    call-of-form _ _ _ _ _ _ _ _ (c .before .before .before .before .before .before .before .if1 .taken) (record { answer = call .0; output = call .1 .0; survivors = call .1 .1 })
 
 slice-aggregate-from-all-bytes : tie.Need-slice-aggregate-from-all-bytes
 slice-aggregate-from-all-bytes c = search needs
@@ -44,7 +46,11 @@ same-length-4 : tie.Need-same-length-4
 same-length-4 c = search needs
 
 returns-2 : tie.Need-returns-2
-returns-2 c = search needs
+returns-2 c =
+    let call = c .before .before .before .before .viterbi-decode .ensures in
+    let filled = c .before .before .before .before .before .before .before .before .before .from-all-bytes .ensures in
+    let soft = front-is-components (c .before .before .before .before .before .before .before .before .before .before .before .before .before .before .before .args .given .now) _ _ (filled .0) (filled .1) in
+    call-of-form _ _ _ _ _ _ _ _ (c .before .before .before .before .before .before .before .before .before .before .before .if1 .left) (call-on-components _ _ _ _ _ _ _ soft (call .0) (call .1 .0) (call .1 .1))
 
 pub symbols-decoded-spec : {M : Type 1} → statement M
 symbols-decoded-spec =

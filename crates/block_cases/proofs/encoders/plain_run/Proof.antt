@@ -1,0 +1,76 @@
+-- `block_cases::encoders::plain_run`: what the call leaves is compared with what the lists spell. Assumes nothing.
+use mathlib.Core.Path.{sym, ap, _∙_}
+use lib.ListN.{length}
+use Rattle.encoder.specs.Encode.{plainSaid}
+use Rattle.fields.specs.Spelling.{bytesSpelt}
+use Rattle.fields.proofs.Verdicts.{malformed-not-same}
+use Rattle.refusal.specs.Answer.{doorNumber}
+use Rattle.block_cases.proofs.Stored.{marked-length, left-in-marked}
+use borrow.Author.Needs.{needs}
+use borrow.Author.Tests.{not-false}
+use Rattle.block_cases.proofs.encoders.plain_run.Statement.{statement}
+use Rattle.block_cases.proofs.encoders.plain_run.Tie as tie
+
+fill-two-requires : tie.Need-fill-two-requires
+fill-two-requires c κs = search needs
+
+same-length : tie.Need-same-length
+same-length c = search needs
+
+same-length-2 : tie.Need-same-length-2
+same-length-2 c = search needs
+
+returns : tie.Need-returns
+returns c = λ e. absurd (malformed-not-same e)
+
+untouch-requires : tie.Need-untouch-requires
+untouch-requires c κs = search needs
+
+conv-encode-requires : tie.Need-conv-encode-requires
+conv-encode-requires c κs = search needs
+
+count-number-requires : tie.Need-count-number-requires
+count-number-requires c κs = search needs
+
+compared-requires : tie.Need-compared-requires
+compared-requires c κs = search needs
+
+same-length-3 : tie.Need-same-length-3
+same-length-3 c = search needs
+
+same-length-4 : tie.Need-same-length-4
+same-length-4 c = search needs
+
+same-length-5 : tie.Need-same-length-5
+same-length-5 c = search needs
+
+returns-2 : tie.Need-returns-2
+returns-2 c = λ same.
+    let call = c .before .before .before .before .before .before .conv-encode in
+    let agreed = c .compared .ensures .0 same in
+    let lists = c .before .before .before .before .before .before .before .before .before .before .before .before .before .before .before .before .before .before .fill-two .ensures (not-false _ (c .before .before .before .before .before .before .before .before .before .before .before .before .before .if1 .left)) in
+    let room = length (c .before .before .before .before .before .before .before .before .before .before .before .before .before .before .before .before .before .before .before .before .before .before .before .before .before .args .out .now) in
+    let roomy = ap (plainSaid _) (marked-length room _ (c .before .before .before .before .before .before .before .before .before .before .before .untouch .ensures)) in
+    record {
+      bits = _;
+      room = room;
+      answered = sym (agreed .0) ∙ c .before .before .before .count-number .ensures ∙ ap doorNumber (call .ensures .0 ∙ roomy);
+      spelt = (lists .0, lists .1 ∙ ap bytesSpelt (sym (agreed .1) ∙ left-in-marked _ _ _ room _ _ roomy (c .before .before .before .before .before .before .before .before .before .before .before .untouch .ensures) (call .ensures .1)));
+    }
+
+pub plain-run-spec : {M : Type 1} → statement M
+plain-run-spec =
+    tie.close
+    (tie.spec
+    fill-two-requires
+    same-length
+    same-length-2
+    returns
+    untouch-requires
+    conv-encode-requires
+    count-number-requires
+    compared-requires
+    same-length-3
+    same-length-4
+    same-length-5
+    returns-2)
