@@ -17,7 +17,7 @@ use Rattle.trellis.specs.State.{nextState, stateAfter}
 use Rattle.trellis.proofs.States.{states-two-halves, leads-to}
 use Rattle.best_path.specs.Step.{Cell, unreached, relaxed, step, best}
 use Rattle.best_path.specs.Run.{stepFrom, metsAfter, survivors, traced}
-use Rattle.best_path.specs.Path.{Leads, gained, Beats, Best, Total, none, total, wholes, startedWhole}
+use Rattle.best_path.specs.Path.{Leads, gained, Beats, Best, Total, none, total, larger, wholes, startedWhole}
 use Rattle.best_path.proofs.Survivors.{step-at}
 use Rattle.best_path.proofs.Words.{longer-leads, leads-longer}
 use Rattle.best_path.proofs.Choice.{same-beats, best-gained, more-beats, lower-beats}
@@ -28,6 +28,10 @@ Found code gains t s v none = (w : List ℕ) → Leads code t s w → ⊥
 Found code gains t s v (total z) = Best code gains t s v z
 
 -- ---- one step
+
+-- of two totals the larger number is better
+larger-is-better : (x y : ℤ) → larger (total x) (total y) ≡ ltZ y x
+larger-is-better x y = refl
 
 module _
     (code : ConvCode) (some : 0 < code .width) (gains : ℕ → ℕ → ℕ → ℤ) (t k b n : ℕ) (hk : k < 2 ^ (code .width - 1)) (hb : b < 2)
@@ -81,7 +85,10 @@ module _
       ⊎-elim (lo (split .front)) (hi (split .front)) (split .front-leads)
   found-cell (total x) none lo hi = best-longer lo lower-next (over-own lo) (λ w q. absurd (hi w q))
   found-cell none (total y) lo hi = best-longer hi upper-next (λ w q. absurd (lo w q)) (over-own hi)
-  found-cell (total x) (total y) lo hi = found-better (ltZ (x +ℤ gains t (2 * k) b) (y +ℤ gains t (2 * k + 1) b)) refl lo hi
+  found-cell (total x) (total y) lo hi =
+      let lower = x +ℤ gains t (2 * k) b in
+      let upper = y +ℤ gains t (2 * k + 1) b in
+      found-better (larger (total upper) (total lower)) (sym (larger-is-better upper lower)) lo hi
 
   found-best :
       (old : ℕ → Total) → Found code gains t (2 * k) (word (2 * k)) (old (2 * k)) →

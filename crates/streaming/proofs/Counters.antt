@@ -14,6 +14,7 @@ use Rattle.trellis.specs.declared.ConvCode.{ConvCode}
 use Rattle.streaming.specs.Stream.{State, fresh, fed, given, bitBehind}
 use Rattle.streaming.specs.Flush.{flushed, flushGives}
 use Rattle.streaming.specs.Life.{Symbol, after}
+use Rattle.streaming.proofs.Draining.{flushed-next}
 
 -- what a flush feeds
 abbrev pub nought : Symbol
@@ -42,7 +43,7 @@ module _ (code : ConvCode) (lag : ℕ) where
   pub flush-after : (xs : List Symbol) (n : ℕ) → flushed code lag (after code lag xs) n ≡ after code lag (replicate n nought ++ xs)
   unfolding flushed after
   flush-after xs zero = refl
-  flush-after xs (suc n) = ap (λ (st : State). fed code lag st zero32 zero32) (flush-after xs n)
+  flush-after xs (suc n) = flushed-next code lag (after code lag xs) n ∙ ap (λ (st : State). fed code lag st zero32 zero32) (flush-after xs n)
 
   flush-count : (xs : List Symbol) (n : ℕ) → flushed code lag (after code lag xs) n .count ≡ min (n + length xs) (suc lag)
   flush-count xs n =

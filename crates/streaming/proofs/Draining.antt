@@ -24,6 +24,11 @@ use Rattle.streaming.specs.Said.{flushSaid, flushLeaves}
 use Rattle.streaming.specs.Held.{lag, standing, Drains}
 use Rattle.streaming.proofs.OneSymbol.{none-given, one-given}
 
+-- each step of a flush feeds (0, 0)
+pub flushed-next : (code : ConvCode) (late : ℕ) (st : State) (n : ℕ) → flushed code late st (suc n) ≡ fed code late (flushed code late st n) zero32 zero32
+unfolding flushed
+flushed-next code late st n = refl
+
 module _ (st : State) where
   pub none-fed : st ≡ flushed k5 lag st 0
   unfolding flushed
@@ -34,8 +39,7 @@ module _ (st : State) where
   nothing-given = refl
 
   pub one-fed : (i : ℕ) (now next : State) → now ≡ flushed k5 lag st i → next ≡ fed k5 lag now zero32 zero32 → next ≡ flushed k5 lag st (i + 1)
-  unfolding flushed
-  one-fed i now next e f = f ∙ ap (λ (s : State). fed k5 lag s zero32 zero32) e ∙ ap (flushed k5 lag st) (sym (add-one i))
+  one-fed i now next e f = f ∙ ap (λ (s : State). fed k5 lag s zero32 zero32) e ∙ sym (flushed-next k5 lag st i) ∙ ap (flushed k5 lag st) (sym (add-one i))
 
   -- the bits of one symbol more
   more-given : (i : ℕ) (next : State) (bits : List ℕ) → next ≡ flushed k5 lag st (i + 1) → given k5 lag next ≡ bits → flushGives k5 lag st i ++ bits ≡ flushGives k5 lag st (i + 1)

@@ -1,2 +1,5 @@
--- Taken: a lookup's answer as what is taken out of a queue.
+-- Taken: a lookup's answer as what is taken out of a queue. Looked: stored lines of the words that the definitions bear out. Stepped: those of the
+-- writer and the reader.
 pub mod Taken
+pub mod Looked
+pub mod Stepped

@@ -1,7 +1,9 @@
 // The two kinds of case of the Varicode words. Each function takes what follows the letter of its line.
 ghost use mathlib.Core.Path.{_≡_};
-ghost use Prim.Native.Nat.{_≤_};
+ghost use Prim.Native.Nat.{_/_, _%_, _≤_};
 ghost use lib.ListN.{length};
+ghost use Rattle.fields.specs.Spelling.{bytesSpelt};
+ghost use Rattle.varicode_cases.specs.Looked.{WordLine, LookupLine, Follows, hitsBelow};
 ghost use Rattle.varicode_cases.specs.Taken.{takenOf};
 use crate::queues::taken_verdict;
 use fields::Value;
@@ -19,7 +21,9 @@ use varicode_words::Letter;
 const HIT: usize = 3;
 
 // `v BB WWWW LL`: a byte, its word's bits, its word's length.
-pub fn word_case(fields: &[u8]) -> Verdict {
+pub fn word_case(fields: &[u8]) -> Verdict
+    ensures { λ r. ⌜ (r ≡ Verdict.Same → WordLine (now (fields .entry))) ⌝ }
+{
     let Value::Is(byte) = number(first(fields), 2) else {
         return Verdict::Malformed;
     };
@@ -40,7 +44,9 @@ pub fn word_case(fields: &[u8]) -> Verdict {
 
 // `d LL HITS`: a length, and the values of that length that are words, each with its byte, in rising
 // order. Every other value of 16 bits is to stand for nothing.
-pub fn lookup_case(fields: &[u8], wanted: &mut [u8]) -> Verdict {
+pub fn lookup_case(fields: &[u8], wanted: &mut [u8]) -> Verdict
+    ensures { λ r. ⌜ (r ≡ Verdict.Same → LookupLine (now (fields .entry))) ⌝ }
+{
     let Value::Is(len) = number(first(fields), 2) else {
         return Verdict::Malformed;
     };
@@ -53,7 +59,9 @@ pub fn lookup_case(fields: &[u8], wanted: &mut [u8]) -> Verdict {
 }
 
 // The lookups themselves, once the room is just what the hits need.
-fn lookup_run(len: u8, text: &[u8], hits: &mut [u8]) -> Verdict {
+fn lookup_run(len: u8, text: &[u8], hits: &mut [u8]) -> Verdict
+    ensures { λ r. ⌜ (r ≡ Verdict.Same → now (text .entry) ≡ bytesSpelt (hitsBelow len 65536)) ⌝ }
+{
     if fill(text, hits) {
         looked_up(len, hits)
     } else {
@@ -63,7 +71,9 @@ fn lookup_run(len: u8, text: &[u8], hits: &mut [u8]) -> Verdict {
 
 // Looks every value up, with the place of the first hit that is still to come. Hits that never come
 // are not in rising order.
-fn looked_up(len: u8, hits: &[u8]) -> Verdict {
+fn looked_up(len: u8, hits: &[u8]) -> Verdict
+    ensures { λ r. ⌜ (r ≡ Verdict.Same → now (hits .entry) ≡ hitsBelow len 65536) ⌝ }
+{
     let mut at = 0;
     let mut value: u32 = 0;
     while value < 0x1_0000 {
@@ -92,7 +102,7 @@ struct Hit {
 // The hit at `at`, if it is this value's.
 fn hit_at(hits: &[u8], at: usize, value: u32) -> Hit
     requires { ⌜ at ≤ length (now hits) ⌝ }
-    ensures { λ r. ⌜ r .next ≤ length (now (hits .entry)) ⌝ }
+    ensures { λ r. ⌜ Follows (now (hits .entry)) at value r ⌝ }
 {
     if hits.len() - at < HIT {
         return Hit {
@@ -113,7 +123,9 @@ fn hit_at(hits: &[u8], at: usize, value: u32) -> Hit
     }
 }
 
-fn value_of(high: u8, low: u8) -> u32 {
+fn value_of(high: u8, low: u8) -> u32
+    ensures { λ r. ⌜ (high ≡ r / 256) × (low ≡ r % 256) ⌝ }
+{
     (high as u32) * 256 + (low as u32)
 }
 

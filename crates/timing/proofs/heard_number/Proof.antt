@@ -1,10 +1,11 @@
 -- `timing::heard_number`: its three arms. Assumes nothing.
-use mathlib.Core.Path.{_≡_, sym, ap, _∙_}
+use mathlib.Core.Path.{_≡_, refl, sym, ap, _∙_}
+use Prim.Native.Nat.{ℕ}
 use borrow.Author.Needs.{needs}
-use Rattle.refusal.specs.Answer.{doorNumber}
+use Rattle.refusal.specs.Answer.{refused, doorNumber}
 use Rattle.streaming.specs.declared.Heard.{Heard}
 use Rattle.streaming.specs.Held.{heardSaid}
-use Rattle.timing.specs.Number.{heardNumber}
+use Rattle.timing.specs.Number.{bitOrTwo, heardNumber}
 use Rattle.timing.proofs.heard_number.Statement.{statement}
 use Rattle.timing.proofs.heard_number.Tie as tie
 
@@ -27,6 +28,10 @@ count-number-requires c κs = search needs
 number-of : {a b : Heard} → b ≡ a → heardNumber (heardSaid a) ≡ heardNumber (heardSaid b)
 number-of e = sym (ap (λ (a : Heard). heardNumber (heardSaid a)) e)
 
+-- a refusal is passed on with its number and its place
+refusal-kept : (number place : ℕ) → bitOrTwo (refused number place) ≡ refused number place
+refusal-kept number place = refl
+
 returns : tie.Need-returns
 unfolding doorNumber
 returns c = number-of (c .before .answer .given .1)
@@ -36,7 +41,7 @@ unfolding doorNumber
 returns-2 c = number-of (c .enum-told .given .1)
 
 returns-3 : tie.Need-returns-3
-returns-3 c = c .count-number .ensures ∙ number-of (c .before .before .answer2 .given .1)
+returns-3 c = c .count-number .ensures ∙ ap doorNumber (sym (refusal-kept _ _)) ∙ number-of (c .before .before .answer2 .given .1)
 
 pub heard-number-spec : {M : Type 1} → statement M
 heard-number-spec =

@@ -1,0 +1,52 @@
+-- A line of the sheet, tested: what is computed for it and what the sheet says, number by number. A line that passes holds. Assumes nothing.
+use mathlib.Core.Bool.{Bool, true, false, _&&_}
+use mathlib.Core.List.{List, [], _∷_, map}
+use mathlib.Core.Path.{_≡_, refl, sym, ap₂, subst}
+use Prim.Native.Nat.{ℕ}
+use lib.Dec.{T, eqb, eqb→eq}
+use lib.ListN.{length}
+use Rattle.readings.specs.Decode.{word, score}
+use Rattle.trellis.specs.Choice.{patternOf}
+use Rattle.trellis.specs.Codeword.{stepsOf, codeword}
+use Rattle.trellis.specs.Keep.{codedLength}
+use Rattle.varicode_words.proofs.Table.{both}
+use Rattle.varicode.specs.Reader.{nothingHeard, lettersFrom}
+use Rattle.varicode.specs.Writer.{byte, streamFrom}
+use Rattle.bench_sheet.specs.Sheet.{Line, coded, lengths, decodes, scores, writes, reads, Holds}
+
+-- two lists of numbers, entry by entry
+abbrev pub same : List ℕ → List ℕ → Bool
+same [] [] = true
+same [] (y ∷ ys) = false
+same (x ∷ xs) [] = false
+same (x ∷ xs) (y ∷ ys) = eqb x y && same xs ys
+
+-- lists that pass are equal
+passed-equal : (xs ys : List ℕ) → T (same xs ys) → xs ≡ ys
+passed-equal [] [] t = refl
+passed-equal [] (y ∷ ys) t = absurd t
+passed-equal (x ∷ xs) [] t = absurd t
+passed-equal (x ∷ xs) (y ∷ ys) t =
+    let passed = both (eqb x y) (same xs ys) t in
+    ap₂ (λ (n : ℕ) (ns : List ℕ). n ∷ ns) (eqb→eq x y (passed .0)) (passed-equal xs ys (passed .1))
+
+equal : (xs ys : List ℕ) → same xs ys ≡ true → xs ≡ ys
+equal xs ys e = passed-equal xs ys (subst T (sym e) tt)
+
+-- what `Holds` says, as a test that comes to true; a score is one number, and is compared as it is
+abbrev pub Passes : Line → Type 0
+Passes (coded code rate info bits) = same (codeword code (patternOf rate) info) bits ≡ true
+Passes (lengths code count atRates) =
+    same (map (λ (rate : ℕ). codedLength (patternOf rate) (stepsOf code count)) (0 ∷ 1 ∷ 2 ∷ 3 ∷ 4 ∷ [])) atRates ≡ true
+Passes (decodes code rate heard bits) = same (word code (patternOf rate) heard (length bits)) bits ≡ true
+Passes (scores code rate count heard is) = score code (patternOf rate) heard count ≡ is
+Passes (writes text bits) = same (streamFrom true (map byte text)) bits ≡ true
+Passes (reads bits text) = same (lettersFrom nothingHeard bits) text ≡ true
+
+pub holds : (line : Line) → Passes line → Holds line
+holds (coded code rate info bits) e = equal _ bits e
+holds (lengths code count atRates) e = equal _ atRates e
+holds (decodes code rate heard bits) e = equal _ bits e
+holds (scores code rate count heard is) e = e
+holds (writes text bits) e = equal _ bits e
+holds (reads bits text) e = equal _ text e

@@ -1,0 +1,2 @@
+-- Hits: a list of hits, one value after the other.
+pub mod Hits
