@@ -5,8 +5,8 @@ use mathlib.Core.Path.{_≡_}
 use Prim.Native.Nat.{ℕ}
 use lib.Ieee.{Float, binary32, ofBits}
 use lib.ListN.{length}
+use Rattle.f32s.specs.Single.{zero32}
 use Rattle.readings.specs.Decode.{word, score}
-use Rattle.readings.specs.Places.{zero32}
 use Rattle.trellis.specs.declared.ConvCode.{ConvCode}
 use Rattle.trellis.specs.Choice.{k5, k7, patternOf}
 use Rattle.trellis.specs.Codeword.{stepsOf, codeword}

@@ -9,7 +9,7 @@ use native.Mathlib.Nat.{add-comm, add-zero, div-add-mod', div-lt-iff-lt-mul, mod
 use native.Mathlib.Omega.{arith}
 use lib.Dec.{lit<}
 use lib.IntN.{ℤ, pos, _+ℤ_}
-use lib.ListN.{length, getD, replicate, List·getD-map}
+use lib.ListN.{length, getD, List·getD-map}
 use lib.Pow.{pow-pos}
 use lib.Signed.{ltZ}
 use Rattle.trellis.specs.declared.ConvCode.{ConvCode}
@@ -18,6 +18,7 @@ use Rattle.trellis.proofs.States.{states-two-halves, leads-to}
 use Rattle.best_path.specs.Step.{Cell, unreached, relaxed, step, best}
 use Rattle.best_path.specs.Run.{stepFrom, metsAfter, survivors, traced}
 use Rattle.best_path.specs.Path.{Leads, gained, Beats, Best, Total, none, total, larger, wholes, startedWhole}
+use Rattle.best_path.proofs.Start.{others-marked}
 use Rattle.best_path.proofs.Survivors.{step-at}
 use Rattle.best_path.proofs.Words.{longer-leads, leads-longer}
 use Rattle.best_path.proofs.Choice.{same-beats, best-gained, more-beats, lower-beats}
@@ -98,11 +99,6 @@ module _
 
 -- ---- all steps
 
-getD-none : (n s : ℕ) → getD (replicate n none) s none ≡ none
-getD-none zero s = refl
-getD-none (suc n) zero = refl
-getD-none (suc n) (suc s) = getD-none n s
-
 module _ (code : ConvCode) (some : 0 < code .width) (gains : ℕ → ℕ → ℕ → ℤ) where
   abbrev mets : ℕ → List Total
   mets = metsAfter wholes code gains (startedWhole code)
@@ -133,7 +129,7 @@ module _ (code : ConvCode) (some : 0 < code .width) (gains : ℕ → ℕ → ℕ
   found-start : (s : ℕ) → Found code gains 0 s [] (getD (startedWhole code) s none)
   unfolding stateAfter
   found-start zero = best-empty
-  found-start (suc s) = rw (getD-none (2 ^ code .width - 1) s) (λ w q. let e = q .ends in omega arith)
+  found-start (suc s) = rw (others-marked wholes code (total (pos 0)) s) (λ w q. let e = q .ends in omega arith)
 
   abbrev oldAt : ℕ → ℕ → Total
   oldAt t s = getD (mets t) s none

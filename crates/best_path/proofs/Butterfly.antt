@@ -1,5 +1,6 @@
 -- A butterfly: the states 2n and 2n + 1 lead to n on the input 0 and to n + half on the input 1, and of the four branches two bring the same, since their
 -- coded pairs are equal, and two the opposite pair's. Over any metric and code. Assumes nothing.
+use mathlib.Core.List.{List}
 use mathlib.Core.Path.{_≡_, sym, ap₂, _∙_}
 use Prim.Native.Nat.{ℕ, _+_, _-_, _*_, _^_, _<_}
 use native.Mathlib.Nat.{mod-lt}
@@ -7,15 +8,19 @@ use native.Mathlib.Omega.{arith}
 use lib.Bits.{bitAnd}
 use lib.Count.{ones}
 use lib.Dec.{lit<}
+use lib.Ieee.{Float}
+use lib.ListN.{getD}
 use Rattle.trellis.specs.declared.ConvCode.{ConvCode}
-use Rattle.trellis.specs.Post.{Ends}
+use Rattle.trellis.specs.Post.{Ends, Crossed}
 use Rattle.trellis.specs.State.{window, parityOf}
 use Rattle.trellis.proofs.Ends.{turned-by-state0, turned-by-state1, turned-by-input0, turned-by-input1}
 use Rattle.trellis.proofs.States.{states-two-halves}
+use Rattle.best_path.specs.declared.Wing.{Wing}
 use Rattle.best_path.specs.Metric.{Metric}
+use Rattle.best_path.specs.Post.{cellOf, Winged}
 use Rattle.best_path.specs.Step.{Cell, unreached, relaxed, best}
 
-pub parity-bit : (taps w : ℕ) → parityOf taps w < 2
+parity-bit : (taps w : ℕ) → parityOf taps w < 2
 unfolding parityOf
 parity-bit taps w = mod-lt (ones (bitAnd w taps)) (lit< tt)
 
@@ -66,8 +71,32 @@ module _
     unfolding best
     two-ways g0 g1 i e f = rw (of-s, e, f)
 
-    pub low-best : (r : Cell M) → r ≡ relaxed op (relaxed op (unreached op) (old (2 * n)) x s) (old (2 * n + 1)) y (s + 1) → r ≡ best op code old gain n 0
+    low-best : (r : Cell M) → r ≡ relaxed op (relaxed op (unreached op) (old (2 * n)) x s) (old (2 * n + 1)) y (s + 1) → r ≡ best op code old gain n 0
     low-best r e = e ∙ two-ways x y 0 (of-x ∙ even-zero) (of-y ∙ odd-zero)
 
-    pub high-best : (r : Cell M) → r ≡ relaxed op (relaxed op (unreached op) (old (2 * n)) y s) (old (2 * n + 1)) x (s + 1) → r ≡ best op code old gain n 1
+    high-best : (r : Cell M) → r ≡ relaxed op (relaxed op (unreached op) (old (2 * n)) y s) (old (2 * n + 1)) x (s + 1) → r ≡ best op code old gain n 1
     high-best r e = e ∙ two-ways y x 1 (of-y ∙ even-one) (of-x ∙ odd-one)
+
+-- The same as a decoder has it: the coded bits of the even states in two lists, and what a call on two states answers.
+module _ (code : ConvCode) (half : ℕ) (c0 c1 : List ℕ) (crossed : Crossed code half c0 c1) (n : ℕ) (h : n < half) where
+  pub crossed-bits : (getD c0 n 0 < 2) × (getD c1 n 0 < 2)
+  crossed-bits = (
+    omega (arith, crossed .first n h, parity-bit (code .g0) (window code (2 * n) 0)),
+    omega (arith, crossed .second n h, parity-bit (code .g1) (window code (2 * n) 0)),
+  )
+
+  module _
+      (op : Metric Float Float) (of : ℕ → ℕ → Float) (gain : ℕ → ℕ → Float)
+      (by-pair : (s i : ℕ) → gain s i ≡ of (parityOf (code .g0) (window code s i)) (parityOf (code .g1) (window code s i)))
+      (old : ℕ → Float) (x y : Float) (of-x : x ≡ of (getD c0 n 0) (getD c1 n 0)) (of-y : y ≡ of (1 - getD c0 n 0) (1 - getD c1 n 0))
+      (s : ℕ) (of-s : s ≡ 2 * n) (w : Wing) (winged : Winged op (old (2 * n)) (old (2 * n + 1)) s x y w) where
+    here : n < 2 ^ (code .width - 1)
+    here = omega (arith, crossed .halved)
+
+    pub wing-best : (cellOf (w .low) ≡ best op code old gain n 0) × (cellOf (w .high) ≡ best op code old gain n 1)
+    wing-best = (
+      low-best op code (crossed .some) (crossed .ends) of gain by-pair n here (getD c0 n 0) (getD c1 n 0) (crossed .first n h) (crossed .second n h) old x y s of-x of-y of-s
+          (cellOf (w .low)) (winged .low),
+      high-best op code (crossed .some) (crossed .ends) of gain by-pair n here (getD c0 n 0) (getD c1 n 0) (crossed .first n h) (crossed .second n h) old x y s of-x of-y of-s
+          (cellOf (w .high)) (winged .high),
+    )

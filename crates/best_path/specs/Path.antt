@@ -4,13 +4,14 @@ use mathlib.Core.Bool.{Bool, true, false}
 use mathlib.Core.List.{List, [], _∷_}
 use mathlib.Core.Logic.{_⊎_}
 use mathlib.Core.Path.{_≡_}
-use Prim.Native.Nat.{ℕ, zero, suc, _-_, _^_, _<_}
+use Prim.Native.Nat.{ℕ, zero, suc, _<_}
 use lib.IntN.{ℤ, pos, _+ℤ_}
-use lib.ListN.{length, getD, replicate}
+use lib.ListN.{length, getD}
 use lib.Signed.{ltZ}
 use Rattle.trellis.specs.declared.ConvCode.{ConvCode}
 use Rattle.trellis.specs.State.{stateAfter}
 use Rattle.best_path.specs.Metric.{Metric}
+use Rattle.best_path.specs.Run.{startedAt}
 
 -- t input bits that lead from state 0 to the state s
 pub record Leads (code : ConvCode) (t s : ℕ) (w : List ℕ) : Type 0 where
@@ -71,6 +72,6 @@ larger (total x) (total y) = ltZ y x
 abbrev pub wholes : Metric Total ℤ
 wholes = record { mark = none; reached = isReached; add = added; better = larger }
 
--- State 0 starts at 0; the others are not reached.
+-- State 0 starts at 0.
 abbrev pub startedWhole : ConvCode → List Total
-startedWhole code = total (pos 0) ∷ replicate (2 ^ code .width - 1) none
+startedWhole code = startedAt wholes code (total (pos 0))

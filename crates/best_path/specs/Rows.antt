@@ -1,9 +1,14 @@
 -- Rows of survivors, one byte for each state, as a decoder keeps them for the way back. Definitions only.
-use mathlib.Core.List.{List}
+use mathlib.Core.List.{List, [], _++_}
 use mathlib.Core.Path.{_≡_}
-use Prim.Native.Nat.{ℕ, _-_, _*_, _^_, _≤_, _<_}
+use Prim.Native.Nat.{ℕ, zero, suc, _-_, _*_, _^_, _≤_, _<_}
 use lib.ListN.{length, getD, take, drop}
 use Rattle.trellis.specs.declared.ConvCode.{ConvCode}
+
+-- the first t rows, one behind the other
+unfoldable pub firstRows : (ℕ → List ℕ) → ℕ → List ℕ
+firstRows row zero = []
+firstRows row (suc t) = firstRows row t ++ row t
 
 -- the survivors of step i
 abbrev pub rowOf : ℕ → List ℕ → ℕ → List ℕ

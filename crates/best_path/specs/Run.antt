@@ -2,16 +2,20 @@
 -- brings. Definitions only.
 use mathlib.Core.List.{List, [], _∷_, _++_, map}
 use Prim.Native.Nat.{ℕ, zero, suc, _-_, _/_, _^_}
-use lib.ListN.{getD}
+use lib.ListN.{getD, replicate}
 use Rattle.trellis.specs.declared.ConvCode.{ConvCode}
 use Rattle.best_path.specs.Metric.{Metric}
-use Rattle.best_path.specs.Step.{Cell, unreached, step}
+use Rattle.best_path.specs.Step.{Cell, step}
 
 module _ {M B : Type 0} (op : Metric M B) (code : ConvCode) where
   -- a step from the metrics of the states, as a list
   unfoldable pub stepFrom : List M → (ℕ → ℕ → B) → List (Cell M)
   unfolding step
   stepFrom mets gain = step op code (λ (s : ℕ). getD mets s (op .mark)) gain
+
+  -- State 0 starts at a metric; the others are not reached.
+  abbrev pub startedAt : M → List M
+  startedAt first = first ∷ replicate (2 ^ code .width - 1) (op .mark)
 
   module _ (gains : ℕ → ℕ → ℕ → B) (start : List M) where
     -- the metrics after the first t steps

@@ -1,37 +1,24 @@
--- Of each entry, any two outcomes that its contract allows are equal. `old` and `slots` are what is lent as out and as scratch, as it came.
--- Assumes nothing.
-use mathlib.Core.List.{List}
-use mathlib.Core.Path.{_≡_}
+-- Of each door, any two outcomes that its contract allows are equal. `Post` is the contract: of what the call is given, what it returns, and what it
+-- leaves in each argument. Assumes nothing.
+use mathlib.Core.Path.{_≡_, sym, _∙_}
 use Prim.Native.Nat.{ℕ}
-use lib.ListN.{length}
-use Rattle.refusal.specs.Answer.{scoreBits, doorNumber}
-use Rattle.refusal.specs.Lent.{leaves}
-use Rattle.refusal.proofs.Determined.{Determined, Determined₂, Determined₃, itself-told, answer-determined, list-determined, lists-determined}
-use Rattle.f32s.specs.Single.{allOfBytes}
-use Rattle.trellis.specs.Choice.{codeOf, patternOf}
-use Rattle.trellis.specs.Codeword.{stepsOf}
-use Rattle.readings.specs.Decode.{word, filledRows}
-use Rattle.readings.specs.Said.{decodeSaid}
-use Rattle.encoder.specs.Encode.{lengthSaid, encodeSaid, encodeWord, plainSaid, plainWord}
+use Rattle.doors.proofs.relay_conv_encode.Reads as relay-conv-encode
+use Rattle.doors.proofs.relay_encode.Reads as relay-encode
+use Rattle.doors.proofs.relay_coded_len.Reads as relay-coded-len
+use Rattle.doors.proofs.relay_decode.Reads as relay-decode
 
-pub relay-conv-encode-determined : (bits old : List ℕ) →
-    Determined₂ (λ (r : ℕ) (out : List ℕ).
-    (r ≡ doorNumber (plainSaid (length bits) (length old)))
-    × (out ≡ leaves (plainSaid (length bits) (length old)) (plainWord bits) old))
-relay-conv-encode-determined bits old = list-determined itself-told
+pub relay-conv-encode-determined :
+    (κs : _) (given : _) (r r' : ℕ) (left left' : _) → relay-conv-encode.Post κs given r left → relay-conv-encode.Post κs given r' left' → (r ≡ r') × (left .1 .0 .now ≡ left' .1 .0 .now)
+relay-conv-encode-determined κs given r r' left left' p q = (p .0 ∙ sym (q .0), p .1 ∙ sym (q .1))
 
-pub relay-encode-determined : (code rate : ℕ) (info old : List ℕ) →
-    Determined₂ (λ (r : ℕ) (out : List ℕ).
-    (r ≡ doorNumber (encodeSaid code rate (length info) (length old)))
-    × (out ≡ leaves (encodeSaid code rate (length info) (length old)) (encodeWord code rate info) old))
-relay-encode-determined code rate info old = list-determined itself-told
+pub relay-encode-determined :
+    (κs : _) (given : _) (r r' : ℕ) (left left' : _) → relay-encode.Post κs given r left → relay-encode.Post κs given r' left' → (r ≡ r') × (left .1 .1 .1 .0 .now ≡ left' .1 .1 .1 .0 .now)
+relay-encode-determined κs given r r' left left' p q = (p .0 ∙ sym (q .0), p .1 ∙ sym (q .1))
 
-pub relay-coded-len-determined : (code rate info : ℕ) → Determined (λ (r : ℕ). r ≡ doorNumber (lengthSaid code rate info))
-relay-coded-len-determined code rate info = answer-determined itself-told
+pub relay-coded-len-determined :
+    (κs : _) (given : _) (r r' : ℕ) (left left' : _) → relay-coded-len.Post κs given r left → relay-coded-len.Post κs given r' left' → r ≡ r'
+relay-coded-len-determined κs given r r' left left' p q = p ∙ sym q
 
-pub relay-decode-determined : (code rate info : ℕ) (readings old slots : List ℕ) →
-    Determined₃ (λ (r : ℕ) (out scratch : List ℕ).
-    (r ≡ doorNumber (scoreBits (decodeSaid code rate info (allOfBytes readings) (length old) (length slots))))
-    × (out ≡ leaves (decodeSaid code rate info (allOfBytes readings) (length old) (length slots)) (word (codeOf code) (patternOf rate) (allOfBytes readings) info) old)
-    × (scratch ≡ leaves (decodeSaid code rate info (allOfBytes readings) (length old) (length slots)) (filledRows (codeOf code) (patternOf rate) (allOfBytes readings) (stepsOf (codeOf code) info)) slots))
-relay-decode-determined code rate info readings old slots = lists-determined itself-told
+pub relay-decode-determined :
+    (κs : _) (given : _) (r r' : ℕ) (left left' : _) → relay-decode.Post κs given r left → relay-decode.Post κs given r' left' → (r ≡ r') × (left .1 .1 .1 .1 .0 .now ≡ left' .1 .1 .1 .1 .0 .now) × (left .1 .1 .1 .1 .1 .0 .now ≡ left' .1 .1 .1 .1 .1 .0 .now)
+relay-decode-determined κs given r r' left left' p q = (p .0 ∙ sym (q .0), p .1 .0 ∙ sym (q .1 .0), p .1 .1 ∙ sym (q .1 .1))

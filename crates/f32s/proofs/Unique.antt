@@ -1,30 +1,31 @@
--- Of each entry, any two outcomes that its contract allows are equal. A `Float` has one NaN, so that two NaNs are equal here whatever their bits.
--- Assumes nothing.
+-- Of each entry, any two outcomes that its contract allows are equal. `Post` is the contract: of what the call is given, what it returns, and what it
+-- leaves in each argument. Assumes nothing.
 use mathlib.Core.Bool.{Bool}
-use mathlib.Core.List.{List, _++_}
-use mathlib.Core.Path.{_≡_}
+use mathlib.Core.Path.{_≡_, sym, _∙_}
 use Prim.Native.Nat.{ℕ}
-use lib.Ieee.{Float, binary32, toBits}
-use lib.ListN.{length, take, drop}
-use Rattle.f32s.specs.Single.{finite, within, ofBytes, allOfBytes}
+use lib.Ieee.{Float}
+use Rattle.f32s.proofs.is_finite.Reads as is-finite
+use Rattle.f32s.proofs.within.Reads as within
+use Rattle.f32s.proofs.from_bytes.Reads as from-bytes
+use Rattle.f32s.proofs.from_all_bytes.Reads as from-all-bytes
+use Rattle.f32s.proofs.bits_of.Reads as bits-of
 
-pub is-finite-determined : (x : Float) (r r' : Bool) → r ≡ finite x → r' ≡ finite x → r ≡ r'
-is-finite-determined x r r' p q = cc
+pub is-finite-determined :
+    (κs : _) (given : _) (r r' : Bool) (left left' : _) → is-finite.Post κs given r left → is-finite.Post κs given r' left' → r ≡ r'
+is-finite-determined κs given r r' left left' p q = p ∙ sym q
 
-pub within-determined : (x : Float) (r r' : Bool) → r ≡ within x → r' ≡ within x → r ≡ r'
-within-determined x r r' p q = cc
+pub within-determined :
+    (κs : _) (given : _) (r r' : Bool) (left left' : _) → within.Post κs given r left → within.Post κs given r' left' → r ≡ r'
+within-determined κs given r r' left left' p q = p ∙ sym q
 
-pub from-bytes-determined : (b0 b1 b2 b3 : ℕ) (r r' : Float) → r ≡ ofBytes b0 b1 b2 b3 → r' ≡ ofBytes b0 b1 b2 b3 → r ≡ r'
-from-bytes-determined b0 b1 b2 b3 r r' p q = cc
+pub from-bytes-determined :
+    (κs : _) (given : _) (r r' : Float) (left left' : _) → from-bytes.Post κs given r left → from-bytes.Post κs given r' left' → r ≡ r'
+from-bytes-determined κs given r r' left left' p q = p ∙ sym q
 
-pub bits-of-determined : (x : Float) (r r' : ℕ) → r ≡ toBits binary32 x → r' ≡ toBits binary32 x → r ≡ r'
-bits-of-determined x r r' p q = cc
+pub from-all-bytes-determined :
+    (κs : _) (given : _) (r r' : ℕ) (left left' : _) → from-all-bytes.Post κs given r left → from-all-bytes.Post κs given r' left' → (r ≡ r') × (left .1 .0 .now ≡ left' .1 .0 .now)
+from-all-bytes-determined κs given r r' left left' p q = (cc, cc)
 
-module _ (bytes : List ℕ) (old : List Float) where
-  -- what the contract of `from_all_bytes` allows
-  pub record Fills (r : ℕ) (values : List Float) : Type 0 where
-    pub count : r ≡ length (take (length old) (allOfBytes bytes))
-    pub filled : values ≡ take (length old) (allOfBytes bytes) ++ drop r old
-
-  pub from-all-bytes-determined : (r r' : ℕ) (values values' : List Float) → Fills r values → Fills r' values' → (r ≡ r') × (values ≡ values')
-  from-all-bytes-determined r r' values values' p q = (cc, cc)
+pub bits-of-determined :
+    (κs : _) (given : _) (r r' : ℕ) (left left' : _) → bits-of.Post κs given r left → bits-of.Post κs given r' left' → r ≡ r'
+bits-of-determined κs given r r' left left' p q = p ∙ sym q

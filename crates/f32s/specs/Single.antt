@@ -4,6 +4,9 @@ use mathlib.Core.List.{List, [], _∷_}
 use Prim.Native.Nat.{ℕ, _+_, _*_}
 use lib.Ieee.{Float, nan, inf, fin, binary32, ofBits, neg, le}
 
+abbrev pub zero32 : Float
+zero32 = ofBits binary32 0
+
 -- neither NaN nor infinite
 abbrev pub finite : Float → Bool
 finite nan = false

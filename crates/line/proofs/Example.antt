@@ -4,7 +4,7 @@ use mathlib.Core.Path.{_≡_, refl}
 use lib.Count.{ones}
 use lib.Ieee.{ofBits, toBits, sub, le}
 use Rattle.f32s.specs.Single.{allOfBytes}
-use Rattle.readings.specs.Used.{firstBad}
+use Rattle.refusal.specs.First.{firstBad}
 use Rattle.trellis.specs.Choice.{codeOf, patternOf}
 use Rattle.trellis.specs.Keep.{keepsBy}
 use Rattle.trellis.specs.State.{nextState}

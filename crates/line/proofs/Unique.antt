@@ -1,14 +1,14 @@
--- Any two lines that the contract of `answer` allows are equal. Assumes nothing.
+-- Any two lines that the contract of `answer` allows are equal. `Post` is the contract: of what the call is given, what it returns, and what it leaves in
+-- each argument. Assumes nothing.
 use mathlib.Core.List.{List}
-use mathlib.Core.Path.{ap₂}
+use mathlib.Core.Path.{_≡_, ap₂}
 use Prim.Native.Nat.{ℕ}
-use Rattle.refusal.proofs.Determined.{Determined}
 use Rattle.line.specs.declared.Line.{Line}
-use Rattle.line.specs.Line.{output}
-use Rattle.line.specs.Post.{Holds}
+use Rattle.line.proofs.answer.Reads as answer
 
 abbrev made : List ℕ → ℕ → Line
 made bs n = record { bytes = bs; count = n }
 
-pub answer-determined : (input : List ℕ) → Determined (Holds (output input))
-answer-determined input r r' p q = ap₂ made (cc) (cc)
+pub answer-determined :
+    (κs : _) (given : _) (r r' : Line) (left left' : _) → answer.Post κs given r left → answer.Post κs given r' left' → r ≡ r'
+answer-determined κs given r r' left left' p q = ap₂ made (cc) (cc)

@@ -1,3 +1,4 @@
--- Rings: what is inside a ring of any capacity, after each of its steps. Turns: a loop that puts elements in one by one.
+-- Rings: what is inside a ring of any capacity, after each of its steps. Turns: a loop that puts elements in one by one. Unique: each contract allows one outcome at most.
 pub mod Rings
 pub mod Turns
+pub mod Unique

@@ -1,7 +1,7 @@
 -- The refusals in their order, and which readings are used. Assumes nothing.
-use mathlib.Core.Bool.{Bool, not, cond}
+use mathlib.Core.Bool.{Bool, not}
 use mathlib.Core.List.{List, _++_}
-use mathlib.Core.Path.{_≡_, refl, sym, ap, ap₂, _∙_}
+use mathlib.Core.Path.{_≡_, refl, sym, ap, _∙_}
 use Prim.Native.Nat.{ℕ, _+_, _*_, _^_, _≤_, _<_}
 use native.Mathlib.Decide.{decLt}
 use native.Mathlib.Omega.{arith}
@@ -11,18 +11,20 @@ use lib.Ieee.{Float}
 use lib.ListN.{length, take, drop}
 use lib.Seq.{take-all, length-take-le}
 use Rattle.encoder.specs.Encode.{lengthOf}
-use Rattle.best_path.proofs.Candidates.{where-true, where-false}
 use Rattle.best_path.proofs.Rows.{length-rows}
+use Rattle.f32s.specs.Single.{finite}
 use Rattle.refusal.specs.Answer.{Said, accepted, refused, refuseWhen}
-use Rattle.refusal.specs.Lent.{over, leaves}
+use Rattle.refusal.specs.First.{firstBad}
+use Rattle.refusal.specs.Lent.{leaves}
 use Rattle.refusal.specs.Limits.{most}
+use Rattle.refusal.proofs.FirstBad.{some-bad, none-bad}
+use Rattle.refusal.proofs.Over.{accepted-leaves}
 use Rattle.trellis.specs.declared.ConvCode.{ConvCode}
 use Rattle.trellis.specs.Choice.{knownRate, codeOf, patternOf}
 use Rattle.trellis.specs.Codeword.{stepsOf}
 use Rattle.trellis.specs.Keep.{Keep}
 use Rattle.trellis.proofs.Chosen.{rate-pattern}
 use Rattle.trellis.proofs.Kept.{coded-le}
-use Rattle.readings.specs.Used.{firstBad}
 use Rattle.readings.specs.Decode.{word, score, filledRows}
 use Rattle.readings.specs.Post.{UsedOf}
 use Rattle.readings.specs.Said.{mostReadings, survivorsOf, examined, decodeSaid}
@@ -111,35 +113,31 @@ module _ (code rate info : ℕ) (readings : List Float) (room scratch : ℕ) whe
           pub no-scratch : scratch < survivorsOf code info → said ≡ refused 5 0
           no-scratch h = room-enough ∙ ap (λ (b : Bool). refuseWhen b 5 readings-tested) (lt-ltb scratch (survivorsOf code info) h)
 
-          module _ (e : survivorsOf code info ≤ scratch) (used bad : ℕ) (is : UsedOf (lengthOf code rate info) (length readings) used) (of-bad : bad ≡ firstBad (take used readings)) where
-            -- the test of the readings, as the code makes it
-            scratch-enough : said ≡ cond (ltb bad used) (refused 6 bad) (accepted (score (codeOf code) (patternOf rate) readings info))
-            scratch-enough =
-                room-enough
-                ∙ ap (λ (b : Bool). refuseWhen b 5 readings-tested) (le-ltb scratch (survivorsOf code info) e)
-                ∙ ap₂ (λ (i n : ℕ). cond (ltb i n) (refused 6 i) (accepted (score (codeOf code) (patternOf rate) readings info)))
-                (sym (of-bad ∙ ap firstBad (used-taken (lengthOf code rate info) used readings is)))
-                (used-counted (lengthOf code rate info) used readings is)
+          module _ (e : survivorsOf code info ≤ scratch) (used bad : ℕ) (is : UsedOf (lengthOf code rate info) (length readings) used) (of-bad : bad ≡ firstBad finite (take used readings)) where
+            scratch-enough : said ≡ readings-tested
+            scratch-enough = room-enough ∙ ap (λ (b : Bool). refuseWhen b 5 readings-tested) (le-ltb scratch (survivorsOf code info) e)
+
+            counted : length (take (lengthOf code rate info) readings) ≡ used
+            counted = used-counted (lengthOf code rate info) used readings is
+
+            found : bad ≡ firstBad finite (take (lengthOf code rate info) readings)
+            found = of-bad ∙ ap (firstBad finite) (used-taken (lengthOf code rate info) used readings is)
 
             pub bad-reading : bad < used → said ≡ refused 6 bad
-            bad-reading h = scratch-enough ∙ sym (where-true (ltb bad used) _ _ (lt-ltb bad used h))
+            bad-reading h = scratch-enough ∙ some-bad finite 6 (take (lengthOf code rate info) readings) _ bad found (omega (arith, counted))
 
             pub good-readings : used ≤ bad → said ≡ accepted (score (codeOf code) (patternOf rate) readings info)
-            good-readings h = scratch-enough ∙ sym (where-false (ltb bad used) _ _ (le-ltb bad used h))
+            good-readings h = scratch-enough ∙ none-bad finite 6 (take (lengthOf code rate info) readings) _ bad found (omega (arith, counted))
 
 -- ---- what is left
 
 module _ (said : Said Float) (score : Float) (accepts : said ≡ accepted score) (code : ConvCode) (p : Keep) (readings : List Float) (info : ℕ) where
   pub leaves-word : (new old : List ℕ) → new ≡ word code p readings info ++ drop info old → new ≡ leaves said (word code p readings info) old
-  unfolding over
-  leaves-word new old e =
-      e ∙ ap (λ (n : ℕ). word code p readings info ++ drop n old) (sym (length-word code p readings info))
-      ∙ ap (λ (a : Said Float). leaves a (word code p readings info) old) (sym accepts)
+  leaves-word = accepted-leaves said score accepts (word code p readings info) info (length-word code p readings info)
 
   pub leaves-rows :
       0 < code .width → (new old : List ℕ) → new ≡ filledRows code p readings (stepsOf code info) ++ drop (stepsOf code info * 2 ^ code .width) old →
       new ≡ leaves said (filledRows code p readings (stepsOf code info)) old
-  unfolding over
-  leaves-rows some new old e =
-      e ∙ ap (λ (n : ℕ). filledRows code p readings (stepsOf code info) ++ drop n old) (sym (length-rows (rows-filled code some p readings (2 ^ code .width) refl) (stepsOf code info)))
-      ∙ ap (λ (a : Said Float). leaves a (filledRows code p readings (stepsOf code info)) old) (sym accepts)
+  leaves-rows some =
+      accepted-leaves said score accepts (filledRows code p readings (stepsOf code info)) (stepsOf code info * 2 ^ code .width)
+      (length-rows (rows-filled code some p readings (2 ^ code .width) refl) (stepsOf code info))

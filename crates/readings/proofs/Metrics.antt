@@ -1,14 +1,15 @@
 -- No metric is a NaN, whatever the readings are: a NaN is greater than nothing, so it never replaces. So the score has bits. Assumes nothing.
-use mathlib.Core.Bool.{Bool, true, false, not}
+use mathlib.Core.Bool.{true, not}
 use mathlib.Core.List.{List}
 use mathlib.Core.Path.{_≡_, sym, subst}
-use Prim.Native.Nat.{ℕ, zero, suc, _-_, _^_, _<_}
-use native.Mathlib.Omega.{arith}
+use Prim.Native.Nat.{ℕ, _^_, _<_}
 use lib.Dec.{T}
-use lib.Ieee.{Float, nan, inf, fin, binary32, lt, isNan, ofBits}
-use lib.ListN.{getD, replicate, getD-replicate}
+use lib.Ieee.{Float, nan, inf, fin, lt, isNan, ofBits}
+use lib.ListN.{getD}
 use lib.Pow.{pow-pos}
 use Rattle.best_path.proofs.Metrics.{metric-holds}
+use Rattle.best_path.proofs.Start.{started-holds}
+use Rattle.f32s.specs.Single.{zero32}
 use Rattle.trellis.specs.declared.ConvCode.{ConvCode}
 use Rattle.trellis.specs.Codeword.{stepsOf}
 use Rattle.trellis.specs.Keep.{Keep}
@@ -30,17 +31,16 @@ mark-not-nan : NotNan mark
 unfolding ofBits isNan
 mark-not-nan = tt
 
-started-not-nan : (code : ConvCode) (s : ℕ) → s < 2 ^ code .width → NotNan (getD (started code) s mark)
+zero-not-nan : NotNan zero32
 unfolding ofBits isNan
-started-not-nan code zero h = tt
-started-not-nan code (suc s) h =
-    subst NotNan (sym (getD-replicate (2 ^ code .width - 1) s mark mark (omega (arith, h)))) mark-not-nan
+zero-not-nan = tt
 
 module _ (code : ConvCode) (some : 0 < code .width) (p : Keep) (readings : List Float) where
   pub metric-not-nan : (t s : ℕ) → s < 2 ^ code .width → NotNan (getD (mets code p readings t) s mark)
   unfolding mets
   metric-not-nan =
-      metric-holds largest NotNan mark-not-nan greater-not-nan code some (gain code p readings) (started code) (started-not-nan code)
+      metric-holds largest NotNan mark-not-nan greater-not-nan code some (gain code p readings) (started code)
+      (λ s h. started-holds largest code zero32 NotNan zero-not-nan mark-not-nan s)
 
   pub score-not-nan : (info : ℕ) → NotNan (score code p readings info)
   unfolding score

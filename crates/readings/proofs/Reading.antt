@@ -6,7 +6,8 @@ use borrow.Author.Tests.{eq-eqb, ne-eqb, lt-ltb, le-ltb}
 use lib.Dec.{eqb}
 use lib.Ieee.{Float, nan}
 use lib.ListN.{length, getD}
-use Rattle.readings.specs.Places.{zero32, valueOf, filled}
+use Rattle.f32s.specs.Single.{zero32}
+use Rattle.readings.specs.Places.{valueOf, filled}
 
 module _ (column : ℕ) (readings : List Float) (at : ℕ) where
   pub reads-received : column ≡ 1 → at < length readings → getD readings at nan ≡ valueOf (filled (eqb column 1) readings at)

@@ -1,19 +1,20 @@
 -- Steps one after the other: the metrics that the code holds agree with those after t steps, and the rows of survivors grow. Assumes nothing.
 use mathlib.Core.Bool.{Bool, true, false, cond}
-use mathlib.Core.List.{List, _++_, map}
+use mathlib.Core.List.{List, _++_}
 use mathlib.Core.Path.{_≡_, refl, sym, ap, ap₂, _∙_}
-use Prim.Native.Nat.{ℕ, zero, suc, _+_, _-_, _%_, _^_, _≤_, _<_}
+use Prim.Native.Nat.{ℕ, zero, suc, _+_, _%_, _^_, _≤_, _<_}
 use native.Mathlib.Nat.{mod-lt}
 use native.Mathlib.Numerals.{add-one}
 use native.Mathlib.Omega.{arith}
 use lib.Dec.{eqb}
 use lib.Ieee.{Float, nan}
-use lib.ListN.{length, getD, set, replicate, getD-replicate, List·getD-append}
+use lib.ListN.{getD, set, replicate, getD-replicate}
 use lib.Seq.{getD-set-other}
-use Rattle.best_path.specs.Step.{Cell, step}
-use Rattle.best_path.specs.Run.{stepFrom, metsAfter, survivors}
-use Rattle.best_path.proofs.Rows.{Filled}
-use Rattle.best_path.proofs.Survivors.{any-default, step-same, length-mets, length-survivors, survivor-below}
+use Rattle.best_path.specs.Run.{metsAfter}
+use Rattle.best_path.proofs.Held.{held-froms, held-next}
+use Rattle.best_path.proofs.Rows.{StateRows, survivor-rows}
+use Rattle.best_path.proofs.Start.{others-marked}
+use Rattle.f32s.specs.Single.{zero32}
 use Rattle.trellis.specs.declared.ConvCode.{ConvCode}
 use Rattle.trellis.specs.declared.KeepPattern.{KeepPattern}
 use Rattle.trellis.specs.Choice.{keepOf}
@@ -21,10 +22,10 @@ use Rattle.trellis.specs.Keep.{Keep, keeps0, keeps1, codedLength}
 use Rattle.trellis.specs.Post.{Rows}
 use Rattle.trellis.proofs.Columns.{rows-pattern, keeps0-column, keeps1-column}
 use Rattle.trellis.proofs.Kept.{one, coded-suc, coded-le}
-use Rattle.readings.specs.Places.{zero32, valueOf, filled, place0, place1}
+use Rattle.readings.specs.Places.{valueOf, filled, place0, place1}
 use Rattle.readings.specs.Sums.{mark, largest, brings, gain, started}
-use Rattle.readings.specs.Decode.{mets, froms, filledRows}
-use Rattle.readings.specs.Post.{stepped, newMets, newFroms}
+use Rattle.readings.specs.Decode.{mets, froms}
+use Rattle.readings.specs.Post.{newMets, newFroms}
 
 -- the metrics as the code holds them, in an array that may be longer
 abbrev pub Agrees : ConvCode → Keep → List Float → List Float → ℕ → Type 0
@@ -39,43 +40,25 @@ module _ (code : ConvCode) (some : 0 < code .width) (p : Keep) (readings : List 
   agrees-start few zero h = refl
   agrees-start few (suc s) h =
       getD-set-other (replicate 64 mark) 0 (suc s) zero32 nan (λ e. omega arith) ∙ getD-replicate 64 (suc s) mark nan (omega (arith, h, few))
-      ∙ sym (getD-replicate (states - 1) s mark mark (omega (arith, h)))
+      ∙ sym (others-marked largest code zero32 s)
 
   module _ (pm : List Float) (a b : Float) (t : ℕ) (agrees : Agrees code p readings pm t) (of-a : a ≡ valueOf (place0 p readings t)) (of-b : b ≡ valueOf (place1 p readings t)) where
-    stepped-gain : stepped code pm a b ≡ step largest code (λ (s : ℕ). getD (mets code p readings t) s mark) (gain code p readings t)
+    same-gain : brings code a b ≡ gain code p readings t
     unfolding gain
-    stepped-gain =
-        step-same largest code (λ (s : ℕ). getD pm s nan) (λ (s : ℕ). getD (mets code p readings t) s mark) (brings code a b) agrees
-        ∙ ap₂ (λ (x y : Float). step largest code (λ (s : ℕ). getD (mets code p readings t) s mark) (brings code x y)) of-a of-b
-
-    new-mets : newMets code pm a b ≡ mets code p readings (suc t)
-    unfolding mets metsAfter stepFrom
-    new-mets = ap (map (λ (c : Cell Float). c .met)) stepped-gain
+    same-gain = ap₂ (brings code) of-a of-b
 
     pub new-froms : newFroms code pm a b ≡ froms code p readings t
-    unfolding froms survivors stepFrom mets
-    new-froms = ap (map (λ (c : Cell Float). c .from)) stepped-gain
+    unfolding froms mets
+    new-froms = held-froms largest code (gain code p readings) (started code) nan pm t agrees (brings code a b) same-gain
 
     pub agrees-next : (next rest : List Float) → next ≡ newMets code pm a b ++ rest → Agrees code p readings next (t + 1)
     unfolding mets
-    agrees-next next rest e s h =
-        let sized = length-mets largest code some (gain code p readings) (started code) t in
-        let within : s < length (mets code p readings (suc t)) = omega (arith, sized, h) in
-        ap (λ (l : List Float). getD l s nan) (e ∙ ap (λ (l : List Float). l ++ rest) new-mets)
-        ∙ List·getD-append (mets code p readings (suc t)) rest nan s within
-        ∙ any-default (mets code p readings (suc t)) s nan mark within
-        ∙ ap (λ (n : ℕ). getD (mets code p readings n) s mark) (sym (add-one t))
+    agrees-next = held-next largest code (gain code p readings) (started code) nan pm t agrees (brings code a b) same-gain some
 
   -- a row of survivors for each step, all of them states
-  pub rows-filled : (width : ℕ) → width ≡ states → Filled width (froms code p readings) (filledRows code p readings)
-  unfolding froms filledRows
-  rows-filled width same =
-      rw same (record {
-        none = refl;
-        more = λ t. refl;
-        sized = length-survivors largest code some (gain code p readings) (started code);
-        below = survivor-below largest code some (gain code p readings) (started code);
-      })
+  pub rows-filled : (width : ℕ) → width ≡ states → StateRows width (froms code p readings)
+  unfolding froms
+  rows-filled width same = rw same (survivor-rows largest code some (gain code p readings) (started code))
 
 -- ---- which readings a step reads
 

@@ -11,10 +11,12 @@ use borrow.Author.Tests.{lt-ltb}
 use lib.Ieee.{Float, nan}
 use lib.ListN.{length, getD, take, drop, replicate, length-append, length-replicate}
 use lib.Seq.{take-all, take-take, length-take-le, getD-take, take-at}
+use Rattle.best_path.specs.Rows.{firstRows}
 use Rattle.best_path.specs.Step.{Cell}
 use Rattle.best_path.specs.Run.{stepFrom, metsAfter, survivors}
 use Rattle.best_path.proofs.Simulation.{traced-same}
 use Rattle.encoder.specs.Encode.{lengthOf}
+use Rattle.f32s.specs.Single.{zero32}
 use Rattle.refusal.specs.Answer.{refused, refuseWhen}
 use Rattle.refusal.specs.Limits.{most}
 use Rattle.refusal.specs.Lent.{leaves}
@@ -24,7 +26,7 @@ use Rattle.trellis.specs.Codeword.{stepsOf}
 use Rattle.trellis.specs.Keep.{Keep, Pattern, keeps0, keeps1, codedLength}
 use Rattle.trellis.proofs.Chosen.{rate-pattern}
 use Rattle.trellis.proofs.Kept.{one, coded-suc, coded-mono}
-use Rattle.readings.specs.Places.{zero32, filled, place0, place1}
+use Rattle.readings.specs.Places.{filled, place0, place1}
 use Rattle.readings.specs.Sums.{mark, largest, gain}
 use Rattle.readings.specs.Decode.{mets, froms, word, score, filledRows}
 use Rattle.readings.specs.Said.{mostReadings, decodeSaid}
@@ -71,7 +73,7 @@ module _ (code : ConvCode) (p : Keep) (good : Pattern p) (readings : List Float)
   froms-taken t h = ap (map (λ (c : Cell Float). c .from)) (cells-taken t h (mets-taken t (earlier t h)))
 
   pub rows-taken : (t : ℕ) → codedLength p t ≤ n → filledRows code p (take n readings) t ≡ filledRows code p readings t
-  unfolding filledRows
+  unfolding firstRows
   rows-taken zero h = refl
   rows-taken (suc t) h = ap₂ _++_ (rows-taken t (earlier t h)) (froms-taken t h)
 

@@ -3,14 +3,13 @@ use mathlib.Core.Bool.{cond}
 use mathlib.Core.List.{List, _++_}
 use mathlib.Core.Path.{_≡_, refl, ap, _∙_}
 use Prim.Native.Nat.{ℕ, _+_, _-_, _*_, _^_, _≤_, _<_}
-use native.Mathlib.Omega.{arith}
 use lib.Dec.{eqb}
 use lib.Ieee.{Float, nan, binary32, add, sub, neg}
 use lib.ListN.{length, getD, drop}
 use Rattle.best_path.specs.declared.Wing.{Wing}
 use Rattle.best_path.specs.Post.{cellOf, Winged}
 use Rattle.best_path.specs.Step.{Cell, best}
-use Rattle.best_path.proofs.Butterfly.{parity-bit, low-best, high-best}
+use Rattle.best_path.proofs.Butterfly.{crossed-bits, wing-best}
 use Rattle.best_path.proofs.Stored.{stored, stored-step}
 use Rattle.trellis.specs.declared.ConvCode.{ConvCode}
 use Rattle.trellis.specs.Post.{Crossed}
@@ -25,12 +24,6 @@ module _
     (of-b : y ≡ cond (eqb (getD c1 n 0) 0) b (neg b)) (s : ℕ) (of-s : s ≡ 2 * n) (w : Wing)
     (winged : Winged largest (getD pm (2 * n) nan) (getD pm (2 * n + 1) nan) s (add binary32 x y) (sub binary32 (neg x) y) w) (code : ConvCode)
     (crossed : Crossed code half c0 c1) where
-  bit0 : getD c0 n 0 < 2
-  bit0 = omega (arith, crossed .first n h, parity-bit (code .g0) (window code (2 * n) 0))
-
-  bit1 : getD c1 n 0 < 2
-  bit1 = omega (arith, crossed .second n h, parity-bit (code .g1) (window code (2 * n) 0))
-
   by-pair : (s i : ℕ) → brings code a b s i ≡ correlation a b (parityOf (code .g0) (window code s i)) (parityOf (code .g1) (window code s i))
   unfolding brings
   by-pair s i = refl
@@ -39,14 +32,9 @@ module _
       (cellOf (w .low) ≡ best largest code (λ (r : ℕ). getD pm r nan) (brings code a b) n 0)
       × (cellOf (w .high) ≡ best largest code (λ (r : ℕ). getD pm r nan) (brings code a b) n 1)
   turned =
-      let of-x = sum-correlates a b x y (getD c0 n 0) (getD c1 n 0) of-a of-b in
-      let of-y = opposite-correlates a b x y (getD c0 n 0) (getD c1 n 0) of-a of-b bit0 bit1 in
-      let here : n < 2 ^ (code .width - 1) = omega (arith, crossed .halved) in (
-        low-best largest code (crossed .some) (crossed .ends) (correlation a b) (brings code a b) by-pair n here (getD c0 n 0) (getD c1 n 0) (crossed .first n h)
-            (crossed .second n h) (λ (r : ℕ). getD pm r nan) (add binary32 x y) (sub binary32 (neg x) y) s of-x of-y of-s (cellOf (w .low)) (winged .low),
-        high-best largest code (crossed .some) (crossed .ends) (correlation a b) (brings code a b) by-pair n here (getD c0 n 0) (getD c1 n 0) (crossed .first n h)
-            (crossed .second n h) (λ (r : ℕ). getD pm r nan) (add binary32 x y) (sub binary32 (neg x) y) s of-x of-y of-s (cellOf (w .high)) (winged .high),
-      )
+      let bits = crossed-bits code half c0 c1 crossed n h in
+      wing-best code half c0 c1 crossed n h largest (correlation a b) (brings code a b) by-pair (λ (r : ℕ). getD pm r nan) (add binary32 x y) (sub binary32 (neg x) y)
+      (sum-correlates a b x y (getD c0 n 0) (getD c1 n 0) of-a of-b) (opposite-correlates a b x y (getD c0 n 0) (getD c1 n 0) of-a of-b (bits .0) (bits .1)) s of-s w winged
 
 -- ---- all turns
 

@@ -1,35 +1,21 @@
--- Of each entry, any two outcomes that its contract allows are equal. `old` and `slots` are what is lent as out and as scratch, as it came.
--- Assumes nothing.
-use mathlib.Core.List.{List}
-use mathlib.Core.Path.{_≡_}
+-- Of each entry, any two outcomes that its contract allows are equal. `Post` is the contract: of what the call is given, what it returns, and what it
+-- leaves in each argument. Assumes nothing.
+use mathlib.Core.Path.{_≡_, sym, _∙_}
 use Prim.Native.Nat.{ℕ}
-use lib.Ieee.{Float}
-use lib.ListN.{length}
-use Rattle.f32s.specs.Single.{allOfBytes}
-use Rattle.refusal.specs.Answer.{wordSaid}
-use Rattle.refusal.specs.Lent.{leaves}
 use Rattle.refusal.specs.declared.Decoded.{Decoded}
 use Rattle.refusal.proofs.Told.{word-told}
-use Rattle.refusal.proofs.Determined.{Determined, Determined₃, itself-told, answer-determined, lists-determined}
-use Rattle.trellis.specs.Choice.{codeOf, patternOf}
-use Rattle.trellis.specs.Codeword.{stepsOf}
-use Rattle.readings.specs.Decode.{word, filledRows}
-use Rattle.readings.specs.Said.{decodeSaid}
-use Rattle.readings.specs.Used.{firstBad}
+use Rattle.readings.proofs.first_bad.Reads as first-bad
+use Rattle.readings.proofs.viterbi_decode_soft_with.Reads as viterbi-decode-soft-with
+use Rattle.readings.proofs.viterbi_decode_bytes.Reads as viterbi-decode-bytes
 
-pub first-bad-determined : (readings : List Float) → Determined (λ (r : ℕ). r ≡ firstBad readings)
-first-bad-determined readings = answer-determined itself-told
+pub first-bad-determined :
+    (κs : _) (given : _) (r r' : ℕ) (left left' : _) → first-bad.Post κs given r left → first-bad.Post κs given r' left' → r ≡ r'
+first-bad-determined κs given r r' left left' p q = p ∙ sym q
 
-pub viterbi-decode-soft-determined : (code : ℕ) (readings : List Float) (info rate : ℕ) (old slots : List ℕ) →
-    Determined₃ (λ (r : Decoded) (out scratch : List ℕ).
-    (wordSaid r ≡ decodeSaid code rate info readings (length old) (length slots))
-    × (out ≡ leaves (decodeSaid code rate info readings (length old) (length slots)) (word (codeOf code) (patternOf rate) readings info) old)
-    × (scratch ≡ leaves (decodeSaid code rate info readings (length old) (length slots)) (filledRows (codeOf code) (patternOf rate) readings (stepsOf (codeOf code) info)) slots))
-viterbi-decode-soft-determined code readings info rate old slots = lists-determined word-told
+pub viterbi-decode-soft-determined :
+    (κs : _) (given : _) (r r' : Decoded) (left left' : _) → viterbi-decode-soft-with.Post κs given r left → viterbi-decode-soft-with.Post κs given r' left' → (r ≡ r') × (left .1 .1 .1 .1 .0 .now ≡ left' .1 .1 .1 .1 .0 .now) × (left .1 .1 .1 .1 .1 .0 .now ≡ left' .1 .1 .1 .1 .1 .0 .now)
+viterbi-decode-soft-determined κs given r r' left left' p q = (word-told r r' (p .0 ∙ sym (q .0)), p .1 .0 ∙ sym (q .1 .0), p .1 .1 ∙ sym (q .1 .1))
 
-pub viterbi-decode-bytes-determined : (code : ℕ) (bytes : List ℕ) (info rate : ℕ) (old slots : List ℕ) →
-    Determined₃ (λ (r : Decoded) (out scratch : List ℕ).
-    (wordSaid r ≡ decodeSaid code rate info (allOfBytes bytes) (length old) (length slots))
-    × (out ≡ leaves (decodeSaid code rate info (allOfBytes bytes) (length old) (length slots)) (word (codeOf code) (patternOf rate) (allOfBytes bytes) info) old)
-    × (scratch ≡ leaves (decodeSaid code rate info (allOfBytes bytes) (length old) (length slots)) (filledRows (codeOf code) (patternOf rate) (allOfBytes bytes) (stepsOf (codeOf code) info)) slots))
-viterbi-decode-bytes-determined code bytes = viterbi-decode-soft-determined code (allOfBytes bytes)
+pub viterbi-decode-bytes-determined :
+    (κs : _) (given : _) (r r' : Decoded) (left left' : _) → viterbi-decode-bytes.Post κs given r left → viterbi-decode-bytes.Post κs given r' left' → (r ≡ r') × (left .1 .1 .1 .1 .0 .now ≡ left' .1 .1 .1 .1 .0 .now) × (left .1 .1 .1 .1 .1 .0 .now ≡ left' .1 .1 .1 .1 .1 .0 .now)
+viterbi-decode-bytes-determined κs given r r' left left' p q = (word-told r r' (p .0 ∙ sym (q .0)), p .1 .0 ∙ sym (q .1 .0), p .1 .1 ∙ sym (q .1 .1))

@@ -1,8 +1,9 @@
 -- The block decoder of readings: its word, its score, and what it leaves in scratch. Definitions only.
-use mathlib.Core.List.{List, [], _++_}
-use Prim.Native.Nat.{ℕ, zero, suc}
+use mathlib.Core.List.{List}
+use Prim.Native.Nat.{ℕ}
 use lib.Ieee.{Float}
 use lib.ListN.{getD, take}
+use Rattle.best_path.specs.Rows.{firstRows}
 use Rattle.best_path.specs.Run.{metsAfter, survivors, traced}
 use Rattle.trellis.specs.declared.ConvCode.{ConvCode}
 use Rattle.trellis.specs.Codeword.{stepsOf}
@@ -30,7 +31,5 @@ module _ (code : ConvCode) (p : Keep) (readings : List Float) where
   score info = getD (mets (stepsOf code info)) 0 mark
 
   -- the survivor numbers of t steps, row by row
-  unfoldable pub filledRows : ℕ → List ℕ
-  unfolding froms
-  filledRows zero = []
-  filledRows (suc t) = filledRows t ++ froms t
+  abbrev pub filledRows : ℕ → List ℕ
+  filledRows t = firstRows froms t

@@ -1,10 +1,11 @@
 -- What each place of the trellis reads: readings fill the kept places in order. Definitions only.
-use mathlib.Core.Bool.{Bool, true, false, cond}
+use mathlib.Core.Bool.{Bool, cond}
 use mathlib.Core.List.{List}
 use Prim.Native.Nat.{ℕ, _+_}
 use lib.Dec.{ltb}
-use lib.Ieee.{Float, nan, binary32, ofBits}
+use lib.Ieee.{Float, nan}
 use lib.ListN.{length, getD}
+use Rattle.f32s.specs.Single.{zero32}
 use Rattle.trellis.specs.Keep.{Keep, keeps0, keeps1, codedLength}
 
 -- a place's reading was received, is missing, or was deleted
@@ -12,9 +13,6 @@ pub data Place : Type 0 where
   received : Float → Place
   missing : Place
   deleted : Place
-
-abbrev pub zero32 : Float
-zero32 = ofBits binary32 0
 
 -- deleted and missing places read 0.0
 abbrev pub valueOf : Place → Float

@@ -1,15 +1,15 @@
 -- What `viterbi_decode_soft_with` answers, for every input. Definitions only.
-use mathlib.Core.Bool.{cond}
 use mathlib.Core.List.{List}
 use Prim.Native.Nat.{ℕ, _*_, _^_}
 use lib.Dec.{ltb}
 use lib.Ieee.{Float}
-use lib.ListN.{length, take}
+use lib.ListN.{take}
 use Rattle.encoder.specs.Encode.{lengthOf, checked}
-use Rattle.refusal.specs.Answer.{Said, accepted, refused, refuseWhen}
+use Rattle.f32s.specs.Single.{finite}
+use Rattle.refusal.specs.Answer.{Said, accepted, refuseWhen}
+use Rattle.refusal.specs.First.{firstBad, refuseAtBad}
 use Rattle.trellis.specs.Choice.{codeOf, patternOf}
 use Rattle.trellis.specs.Codeword.{stepsOf}
-use Rattle.readings.specs.Used.{firstBad}
 use Rattle.readings.specs.Decode.{score}
 
 -- the most readings that a decoding uses: two for each of the 4,096 + 6 steps
@@ -22,7 +22,7 @@ survivorsOf code info = stepsOf (codeOf code) info * 2 ^ codeOf code .width
 
 -- refusal 6 at the first reading that is NaN or infinite
 abbrev pub examined : {A : Type 0} → List Float → Said A → Said A
-examined used rest = cond (ltb (firstBad used) (length used)) (refused 6 (firstBad used)) rest
+examined used rest = refuseAtBad 6 finite used rest
 
 -- surplus readings are neither used nor examined
 unfoldable pub decodeSaid : (code rate info : ℕ) → List Float → (room scratch : ℕ) → Said Float

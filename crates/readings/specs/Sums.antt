@@ -1,15 +1,16 @@
 -- Correlations and metrics in f32, each operation rounded once. Definitions only.
-use mathlib.Core.Bool.{Bool, cond, not}
-use mathlib.Core.List.{List, _∷_}
-use Prim.Native.Nat.{ℕ, _-_, _^_}
+use mathlib.Core.Bool.{cond, not}
+use mathlib.Core.List.{List}
+use Prim.Native.Nat.{ℕ}
 use lib.Dec.{eqb}
 use lib.Ieee.{Float, binary32, ofBits, add, sub, neg, lt, le}
-use lib.ListN.{replicate}
 use Rattle.best_path.specs.Metric.{Metric}
+use Rattle.best_path.specs.Run.{startedAt}
+use Rattle.f32s.specs.Single.{zero32}
 use Rattle.trellis.specs.declared.ConvCode.{ConvCode}
 use Rattle.trellis.specs.Keep.{Keep}
 use Rattle.trellis.specs.State.{window, parityOf}
-use Rattle.readings.specs.Places.{zero32, valueOf, place0, place1}
+use Rattle.readings.specs.Places.{valueOf, place0, place1}
 
 -- the mark of a state that is not reached: f32::MIN / 2
 abbrev pub mark : Float
@@ -41,6 +42,6 @@ unfoldable pub gain : ConvCode → Keep → List Float → ℕ → ℕ → ℕ �
 unfolding brings place0 place1
 gain code p readings t = brings code (valueOf (place0 p readings t)) (valueOf (place1 p readings t))
 
--- State 0 starts at 0.0; the others are unreachable.
+-- State 0 starts at 0.0.
 abbrev pub started : ConvCode → List Float
-started code = zero32 ∷ replicate (2 ^ code .width - 1) mark
+started code = startedAt largest code zero32

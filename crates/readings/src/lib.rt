@@ -4,8 +4,9 @@ ghost use mathlib.Core.Path.{_≡_};
 ghost use Prim.Native.Nat.{_-_, _*_, _^_, _≤_};
 ghost use lib.ListN.{length, drop};
 ghost use Rattle.encoder.specs.Encode.{lengthOf};
-ghost use Rattle.f32s.specs.Single.{allOfBytes};
+ghost use Rattle.f32s.specs.Single.{finite, allOfBytes};
 ghost use Rattle.refusal.specs.Answer.{wordSaid, refused};
+ghost use Rattle.refusal.specs.First.{firstBad};
 ghost use Rattle.refusal.specs.Lent.{leaves};
 ghost use Rattle.trellis.specs.Choice.{codeOf, patternOf, keepOf};
 ghost use Rattle.trellis.specs.Codeword.{stepsOf};
@@ -13,7 +14,6 @@ ghost use Rattle.trellis.specs.Post.{Narrow, Rows, Halved};
 ghost use Rattle.readings.specs.Decode.{word, score, filledRows};
 ghost use Rattle.readings.specs.Post.{UsedOf};
 ghost use Rattle.readings.specs.Said.{survivorsOf, decodeSaid};
-ghost use Rattle.readings.specs.Used.{firstBad};
 
 mod branches;
 mod forward_pass;
@@ -26,7 +26,7 @@ use trellis::KeepPattern;
 
 // The index of the first reading that is NaN or infinite, and the length where none is.
 pub fn first_bad(readings: &[f32]) -> usize
-    ensures { λ r. ⌜ r ≡ firstBad (now (readings .entry)) ⌝ }
+    ensures { λ r. ⌜ r ≡ firstBad finite (now (readings .entry)) ⌝ }
 {
     let used = readings.len();
     for i in 0..used {

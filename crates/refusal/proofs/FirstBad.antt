@@ -4,48 +4,56 @@ use mathlib.Core.List.{List, [], _∷_}
 use mathlib.Core.Path.{_≡_, refl, ap, sym, subst, _∙_}
 use Prim.Native.Nat.{ℕ, zero, suc, _+_, _≤_, _<_}
 use native.Mathlib.Omega.{arith}
+use borrow.Author.Tests.{lt-ltb, le-ltb}
 use lib.Dec.{T}
+use lib.Ieee.{Float, nan}
 use lib.ListN.{length, getD, drop, drop-of-length-le}
+use Rattle.refusal.specs.Answer.{Said, refused}
+use Rattle.refusal.specs.First.{firstBad, refuseAtBad}
 
--- i places on, with those before it good
-unfoldable pub badFrom : {A : Type 0} → (List A → ℕ) → ℕ → List A → ℕ
-badFrom first i xs = i + first (drop i xs)
+next-is : (i : ℕ) (xs : List Float) → i < length xs → drop i xs ≡ getD xs i nan ∷ drop (suc i) xs
+next-is zero [] h = absurd (omega (arith, h))
+next-is (suc i) [] h = absurd (omega (arith, h))
+next-is zero (x ∷ xs) h = refl
+next-is (suc i) (x ∷ xs) h = next-is i xs (omega arith)
 
-next-is : {A : Type 0} (d : A) (i : ℕ) (xs : List A) → i < length xs → drop i xs ≡ getD xs i d ∷ drop (suc i) xs
-next-is d zero [] h = absurd (omega (arith, h))
-next-is d (suc i) [] h = absurd (omega (arith, h))
-next-is d zero (x ∷ xs) h = refl
-next-is d (suc i) (x ∷ xs) h = next-is d i xs (omega arith)
+module _ (is-good : Float → Bool) where
+  -- i places on, with those before it good
+  unfoldable pub badFrom : ℕ → List Float → ℕ
+  badFrom i xs = i + firstBad is-good (drop i xs)
 
--- `first` is the index of the first that is not good, and the length where there is none
-pub record FirstBad {A : Type 0} (is-good : A → Bool) (first : List A → ℕ) : Type 0 where
-  pub none : first [] ≡ 0
-  pub more : (x : A) (xs : List A) → first (x ∷ xs) ≡ cond (is-good x) (suc (first xs)) 0
-
-module _ {A : Type 0} {is-good : A → Bool} {first : List A → ℕ} (is : FirstBad is-good first) (d : A) where
-  pub bad-from-start : (xs : List A) → first xs ≡ badFrom first 0 xs
+  pub bad-from-start : (xs : List Float) → firstBad is-good xs ≡ badFrom 0 xs
   unfolding badFrom
   bad-from-start xs = omega arith
 
-  module _ (i : ℕ) (xs : List A) (h : i < length xs) where
-    look : (good : Bool) → good ≡ is-good (getD xs i d) → first (drop i xs) ≡ cond good (suc (first (drop (suc i) xs))) 0
-    look good e = ap first (next-is d i xs h) ∙ is .more (getD xs i d) (drop (suc i) xs) ∙ ap (λ (b : Bool). cond b (suc (first (drop (suc i) xs))) 0) (sym e)
+  module _ (i : ℕ) (xs : List Float) (h : i < length xs) where
+    look : (good : Bool) → good ≡ is-good (getD xs i nan) → firstBad is-good (drop i xs) ≡ cond good (suc (firstBad is-good (drop (suc i) xs))) 0
+    unfolding firstBad
+    look good e = ap (firstBad is-good) (next-is i xs h) ∙ ap (λ (b : Bool). cond b (suc (firstBad is-good (drop (suc i) xs))) 0) (sym e)
 
-    pub bad-here : (good : Bool) → good ≡ is-good (getD xs i d) → not good ≡ true → badFrom first i xs ≡ i
+    pub bad-here : (good : Bool) → good ≡ is-good (getD xs i nan) → not good ≡ true → badFrom i xs ≡ i
     unfolding badFrom
     bad-here true e bad = absurd (subst T (sym bad) tt)
     bad-here false e bad = omega (arith, look false e)
 
-    pub bad-later : (good : Bool) → good ≡ is-good (getD xs i d) → not good ≡ false → badFrom first i xs ≡ badFrom first (i + 1) xs
+    pub bad-later : (good : Bool) → good ≡ is-good (getD xs i nan) → not good ≡ false → badFrom i xs ≡ badFrom (i + 1) xs
     unfolding badFrom
     bad-later true e fine =
         let next : suc i ≡ i + 1 = omega arith in
-        let one : i + first (drop i xs) ≡ suc i + first (drop (suc i) xs) = omega (arith, look true e) in
-        one ∙ ap (λ (j : ℕ). j + first (drop j xs)) next
+        let one : i + firstBad is-good (drop i xs) ≡ suc i + firstBad is-good (drop (suc i) xs) = omega (arith, look true e) in
+        one ∙ ap (λ (j : ℕ). j + firstBad is-good (drop j xs)) next
     bad-later false e fine = absurd (subst T fine tt)
 
-  pub bad-past : (i : ℕ) (xs : List A) → i ≤ length xs → length xs ≤ i → badFrom first i xs ≡ length xs
-  unfolding badFrom
+  pub bad-past : (i : ℕ) (xs : List Float) → i ≤ length xs → length xs ≤ i → badFrom i xs ≡ length xs
+  unfolding badFrom firstBad
   bad-past i xs h k =
-      let nothing : first (drop i xs) ≡ 0 = ap first (drop-of-length-le xs k) ∙ is .none in
+      let nothing : firstBad is-good (drop i xs) ≡ 0 = ap (firstBad is-good) (drop-of-length-le xs k) in
       omega (arith, nothing)
+
+  -- the refusal, by an index that was found
+  module _ {A : Type 0} (number : ℕ) (xs : List Float) (rest : Said A) (bad : ℕ) (found : bad ≡ firstBad is-good xs) where
+    pub some-bad : bad < length xs → refuseAtBad number is-good xs rest ≡ refused number bad
+    some-bad h = rw (← found, lt-ltb bad (length xs) h)
+
+    pub none-bad : length xs ≤ bad → refuseAtBad number is-good xs rest ≡ rest
+    none-bad h = rw (← found, le-ltb bad (length xs) h)

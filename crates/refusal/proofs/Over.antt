@@ -1,4 +1,4 @@
--- Writing over the front of a list, piece by piece. For any type of elements. Assumes nothing.
+-- Writing over the front of a list, piece by piece, and all that an accepted call writes. For any type of elements. Assumes nothing.
 use mathlib.Core.List.{List, [], _∷_, _++_, append-nil}
 use mathlib.Core.Path.{_≡_, refl, sym, ap, _∙_}
 use Prim.Native.Nat.{ℕ, suc, _≤_, _<_}
@@ -6,7 +6,8 @@ use native.Mathlib.Numerals.{add-one}
 use native.Mathlib.Omega.{arith}
 use lib.ListN.{length, drop, take, set, length-append, length-drop, take-append-drop}
 use lib.Seq.{length-take-le, take-append-seam, drop-append-add, drop-drop, set-split, append-snoc}
-use Rattle.refusal.specs.Lent.{over}
+use Rattle.refusal.specs.Answer.{Said, accepted}
+use Rattle.refusal.specs.Lent.{over, leaves}
 
 module _ {B : Type 0} where
   pub over-none : (old : List B) → old ≡ over [] old
@@ -34,3 +35,11 @@ module _ {B : Type 0} where
   pub length-over : (new old : List B) → length new ≤ length old → length (over new old) ≡ length old
   unfolding over
   length-over new old h = simp (length-append, length-drop) (omega arith)
+
+  -- an accepted call that put n elements at the front, and kept what lies beyond
+  pub accepted-leaves :
+      {A : Type 0} (said : Said A) (a : A) → said ≡ accepted a → (put : List B) (n : ℕ) → length put ≡ n → (new old : List B) → new ≡ put ++ drop n old →
+      new ≡ leaves said put old
+  unfolding over
+  accepted-leaves {A} said a accepts put n sized new old e =
+      e ∙ ap (λ (m : ℕ). put ++ drop m old) (sym sized) ∙ ap (λ (s : Said A). leaves s put old) (sym accepts)

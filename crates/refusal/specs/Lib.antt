@@ -1,4 +1,6 @@
--- Answer: what document 01 says of an answer. Lent: what a call leaves in a lent buffer. Limits: how much one call may bring.
+-- Answer: what document 01 says of an answer. First: the place of the first bad value. Lent: what a call leaves in a lent buffer. Limits: how much one
+-- call may bring.
 pub mod Answer
+pub mod First
 pub mod Lent
 pub mod Limits

@@ -1,7 +1,7 @@
 -- A flush, symbol by symbol: the state after i of them, and their bits at the front of the output. Assumes nothing.
 use mathlib.Core.Bool.{Bool, true, false}
 use mathlib.Core.List.{List, [], _∷_, _++_, append-nil}
-use mathlib.Core.Path.{_≡_, refl, sym, ap, ap₂, _∙_}
+use mathlib.Core.Path.{_≡_, refl, sym, ap, _∙_}
 use Prim.Native.Nat.{ℕ, suc, _+_, _≤_, _<_}
 use native.Mathlib.Numerals.{add-one}
 use native.Mathlib.Omega.{arith}
@@ -9,12 +9,12 @@ use borrow.Author.Tests.{lt-ltb, le-ltb}
 use lib.Dec.{ltb}
 use lib.ListN.{length, take, set, length-append, length-set}
 use Rattle.best_path.proofs.Candidates.{where-true, where-false}
+use Rattle.f32s.specs.Single.{zero32}
 use Rattle.refusal.specs.declared.Counted.{Counted}
 use Rattle.refusal.specs.declared.Counted.the-variants as counted
 use Rattle.refusal.specs.Answer.{Said, accepted, refused, refuseWhen, countSaid}
 use Rattle.refusal.specs.Lent.{over, leaves}
 use Rattle.refusal.proofs.Over.{over-none, over-set, over-more}
-use Rattle.symbols.specs.Costs.{zero32}
 use Rattle.trellis.specs.Choice.{k5}
 use Rattle.trellis.specs.declared.ConvCode.{ConvCode}
 use Rattle.streaming.specs.declared.Front.{Front}

@@ -12,7 +12,8 @@ use Rattle.best_path.proofs.Survivors.{any-default}
 use Rattle.f32s.specs.Bounded.{UpTo}
 use Rattle.f32s.proofs.Ranges.{Range, from-not-below, bounds-ordered}
 use Rattle.f32s.proofs.RangeSums.{difference-range}
-use Rattle.symbols.specs.Costs.{zero32, mark, smallest}
+use Rattle.f32s.specs.Single.{zero32}
+use Rattle.symbols.specs.Costs.{mark, smallest}
 use Rattle.symbols.proofs.Bounds.{up-to-below}
 use Rattle.streaming.specs.Stream.{leastOf, lowered, normalised}
 use Rattle.streaming.proofs.Least.{Found, least-not-above, least-is-one}

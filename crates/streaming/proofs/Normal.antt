@@ -1,15 +1,15 @@
 -- Normalisation, one metric at a time. Assumes nothing.
-use mathlib.Core.Bool.{Bool, true, false, cond}
-use mathlib.Core.List.{List, [], _∷_, _++_, map}
+use mathlib.Core.Bool.{true, false, cond}
+use mathlib.Core.List.{List, [], _∷_, map}
 use mathlib.Core.Path.{_≡_, refl, sym, ap, ap₂, _∙_}
 use Prim.Native.Nat.{ℕ, zero, suc, _+_, _<_, _≤_}
 use native.Mathlib.Numerals.{add-one}
 use native.Mathlib.Omega.{arith}
 use lib.Ieee.{Float, nan, lt}
-use lib.ListN.{length, getD, set, take, drop}
-use lib.Seq.{set-append-seam}
+use lib.ListN.{length, getD, set}
 use Rattle.best_path.proofs.Survivors.{any-default}
-use Rattle.symbols.specs.Costs.{mark, zero32}
+use Rattle.f32s.specs.Single.{zero32}
+use Rattle.symbols.specs.Costs.{mark}
 use Rattle.streaming.specs.Stream.{leastOf, lowered, normalised}
 
 -- ---- the least metric

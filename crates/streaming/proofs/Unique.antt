@@ -1,23 +1,28 @@
--- Of each entry, any two outcomes that its contract allows are equal: `held` tells two decoders apart, field by field. Assumes nothing.
+-- Of each entry, any two outcomes that its contract allows are equal. `Post` is the contract: of what the call is given, what it returns, and what it
+-- leaves in each argument. Those in place have contracts over named records, which their laws are about. `held` tells two decoders apart, field by
+-- field. Assumes nothing.
 use mathlib.Core.List.{List}
-use mathlib.Core.Path.{_≡_, ap, ap₂}
+use mathlib.Core.Path.{_≡_, ap, ap₂, sym, _∙_}
 use Prim.Native.Nat.{ℕ}
 use lib.Ieee.{Float}
 use lib.ListN.{length}
 use Rattle.refusal.specs.Lent.{leaves}
 use Rattle.refusal.specs.declared.Counted.{Counted}
 use Rattle.refusal.proofs.Told.{same-refusal, count-told}
-use Rattle.refusal.proofs.Determined.{Determined, Determined₂, Determined₃, answer-determined}
+use Rattle.refusal.proofs.Determined.{Determined₂, Determined₃}
 use Rattle.trellis.specs.Choice.{k5}
 use Rattle.streaming.specs.declared.StreamingViterbi.{StreamingViterbi}
 use Rattle.streaming.specs.declared.Heard.{Heard}
 use Rattle.streaming.specs.declared.Heard.the-variants as heard
 use Rattle.streaming.specs.declared.Fed.{Fed}
 use Rattle.streaming.specs.declared.Flushed.{Flushed}
-use Rattle.streaming.specs.Stream.{State, fresh}
+use Rattle.streaming.specs.Stream.{State}
 use Rattle.streaming.specs.Flush.{flushGives}
 use Rattle.streaming.specs.Said.{flushSaid}
-use Rattle.streaming.specs.Held.{lag, held, heardSaid, Feeds, FeedsIn, Flushes, FlushesIn}
+use Rattle.streaming.specs.Held.{lag, held, heardSaid, FeedsIn, FlushesIn}
+use Rattle.streaming.proofs.StreamingViterbi.new.Reads as new
+use Rattle.streaming.proofs.StreamingViterbi.feed_symbol.Reads as feed-symbol
+use Rattle.streaming.proofs.StreamingViterbi.flush.Reads as flush-by-value
 
 -- the record that a state is
 abbrev decoderOf : State → StreamingViterbi
@@ -40,24 +45,27 @@ heard-told (heard.Refused q) (heard.Refused r) e = ap heard.Refused (same-refusa
 
 -- ---- by value
 
-pub new-determined : Determined (λ (r : StreamingViterbi). held r ≡ fresh k5 lag)
-new-determined = answer-determined held-told
+pub new-determined :
+    (κs : _) (given : _) (r r' : StreamingViterbi) (left left' : _) → new.Post κs given r left → new.Post κs given r' left' → r ≡ r'
+new-determined κs given r r' left left' p q = held-told r r' (p ∙ sym q)
 
 abbrev fed : Heard → StreamingViterbi → Fed
 fed a d = record { answer = a; decoder = d }
 
-pub feed-symbol-determined : (d : StreamingViterbi) (re im : Float) → Determined (Feeds d re im)
-feed-symbol-determined d re im r r' p q = ap₂ fed (heard-told (r .answer) (r' .answer) (cc)) (held-told (r .decoder) (r' .decoder) (cc))
+pub feed-symbol-determined :
+    (κs : _) (given : _) (r r' : Fed) (left left' : _) → feed-symbol.Post κs given r left → feed-symbol.Post κs given r' left' → r ≡ r'
+feed-symbol-determined κs given r r' left left' p q = ap₂ fed (heard-told (r .answer) (r' .answer) (p .answer ∙ sym (q .answer))) (held-told (r .decoder) (r' .decoder) (p .state ∙ sym (q .state)))
 
 abbrev flushed : Counted → StreamingViterbi → Flushed
 flushed a d = record { answer = a; decoder = d }
 
-pub flush-by-value-determined : (d : StreamingViterbi) (old : List ℕ) →
-    Determined₂ (λ (r : Flushed) (out : List ℕ).
-    Flushes d (length old) r
-    × (out ≡ leaves (flushSaid k5 lag (held d) (length old)) (flushGives k5 lag (held d) lag) old))
-flush-by-value-determined d old r r' out out' p q =
-    (ap₂ flushed (count-told (r .answer) (r' .answer) (cc)) (held-told (r .decoder) (r' .decoder) (cc)), cc)
+pub flush-by-value-determined :
+    (κs : _) (given : _) (r r' : Flushed) (left left' : _) → flush-by-value.Post κs given r left → flush-by-value.Post κs given r' left' →
+    (r ≡ r') × (left .1 .0 .now ≡ left' .1 .0 .now)
+flush-by-value-determined κs given r r' left left' p q = (
+    ap₂ flushed (count-told (r .answer) (r' .answer) (p .0 .answer ∙ sym (q .0 .answer))) (held-told (r .decoder) (r' .decoder) (p .0 .state ∙ sym (q .0 .state))),
+    p .1 ∙ sym (q .1),
+)
 
 -- ---- in place
 

@@ -1,7 +1,7 @@
 -- Flush: so many symbols (0, 0), and the bits that they give. Over any code and lag. Definitions only.
 use mathlib.Core.List.{List, [], _++_}
 use Prim.Native.Nat.{ℕ, zero, suc}
-use Rattle.symbols.specs.Costs.{zero32}
+use Rattle.f32s.specs.Single.{zero32}
 use Rattle.trellis.specs.declared.ConvCode.{ConvCode}
 use Rattle.streaming.specs.Stream.{State, fed, given}
 

@@ -7,7 +7,8 @@ use lib.Ieee.{Float, nan, binary32, sub, lt}
 use lib.ListN.{getD, set, replicate}
 use Rattle.best_path.specs.Run.{inputInto}
 use Rattle.best_path.specs.Step.{Cell, step}
-use Rattle.symbols.specs.Costs.{zero32, mark, smallest, costs, started}
+use Rattle.f32s.specs.Single.{zero32}
+use Rattle.symbols.specs.Costs.{mark, smallest, costs, started}
 use Rattle.symbols.specs.Decode.{firstLeast}
 use Rattle.trellis.specs.declared.ConvCode.{ConvCode}
 

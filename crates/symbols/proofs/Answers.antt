@@ -8,25 +8,20 @@ use lib.Ieee.{Float}
 use lib.ListN.{length, take, drop}
 use lib.Seq.{take-all, take-at, length-take-le}
 use Rattle.best_path.proofs.Rows.{length-rows, length-traced}
+use Rattle.f32s.specs.Single.{within}
 use Rattle.refusal.specs.Answer.{Said, accepted, refused}
-use Rattle.refusal.specs.Lent.{over, leaves}
+use Rattle.refusal.specs.First.{firstBad}
+use Rattle.refusal.specs.Lent.{leaves}
+use Rattle.refusal.proofs.FirstBad.{some-bad, none-bad}
+use Rattle.refusal.proofs.Over.{accepted-leaves}
 use Rattle.trellis.specs.Choice.{k5}
 use Rattle.symbols.specs.Costs.{smallest}
 use Rattle.symbols.specs.Decode.{firstLeast, mets, froms, word, filledRows}
 use Rattle.symbols.specs.Said.{examined, roomFor, symbolsIn, softSaid, hardSaid, phasorsOf}
-use Rattle.symbols.specs.Used.{firstBeyond}
 use Rattle.symbols.proofs.Hard.{length-phasors, none-beyond}
 use Rattle.symbols.proofs.Steps.{rows-filled}
 
 -- ---- the refusals
-
--- some component is beyond ±1,024, or none is
-module _ {A : Type 0} (used : List Float) (rest : Said A) (bad : ℕ) (of-bad : bad ≡ firstBeyond used) where
-  examined-beyond : bad < length used → examined used rest ≡ refused 7 bad
-  examined-beyond h = rw (← of-bad, lt-ltb bad (length used) h)
-
-  examined-within : length used ≤ bad → examined used rest ≡ rest
-  examined-within h = rw (← of-bad, le-ltb bad (length used) h)
 
 room-enough : {A : Type 0} (count room scratch : ℕ) (rest : Said A) → count ≤ 4096 → count ≤ room → count * 16 ≤ scratch → roomFor count room scratch rest ≡ rest
 room-enough count room scratch rest a b c = rw (le-ltb 4096 count a, le-ltb room count b, le-ltb scratch (count * 16) c)
@@ -52,7 +47,7 @@ module _ (soft : List Float) (room scratch : ℕ) where
       unfolding softSaid
       no-scratch h = rw (le-ltb 4096 count a, le-ltb room count b, lt-ltb scratch (count * 16) h)
 
-      module _ (c : count * 16 ≤ scratch) (bad : ℕ) (of-bad : bad ≡ firstBeyond (take (2 * count) soft)) where
+      module _ (c : count * 16 ≤ scratch) (bad : ℕ) (of-bad : bad ≡ firstBad within (take (2 * count) soft)) where
         abbrev used : List Float
         used = take (2 * count) soft
 
@@ -65,10 +60,10 @@ module _ (soft : List Float) (room scratch : ℕ) where
         said-of-used = room-enough count room scratch _ a b c
 
         pub beyond : bad < 2 * count → said ≡ refused 7 bad
-        beyond h = said-of-used ∙ examined-beyond used (accepted count) bad of-bad (omega (arith, counted))
+        beyond h = said-of-used ∙ some-bad within 7 used (accepted count) bad of-bad (omega (arith, counted))
 
         pub all-within : 2 * count ≤ bad → said ≡ accepted count
-        all-within h = said-of-used ∙ examined-within used (accepted count) bad of-bad (omega (arith, counted))
+        all-within h = said-of-used ∙ none-bad within 7 used (accepted count) bad of-bad (omega (arith, counted))
 
 -- ---- what is left
 
@@ -78,15 +73,10 @@ module _ (said : Said ℕ) (soft : List Float) (count : ℕ) (accepts : said ≡
   length-word = length-traced smallest k5 (froms k5 soft) count (firstLeast (mets k5 soft count) 16)
 
   pub leaves-word : (new old : List ℕ) → new ≡ word k5 soft count ++ drop count old → new ≡ leaves said (word k5 soft count) old
-  unfolding over
-  leaves-word new old e =
-      e ∙ ap (λ (n : ℕ). word k5 soft count ++ drop n old) (sym length-word) ∙ ap (λ (a : Said ℕ). leaves a (word k5 soft count) old) (sym accepts)
+  leaves-word = accepted-leaves said count accepts (word k5 soft count) count length-word
 
   pub leaves-rows : (new old : List ℕ) → new ≡ filledRows k5 soft count ++ drop (count * 16) old → new ≡ leaves said (filledRows k5 soft count) old
-  unfolding over
-  leaves-rows new old e =
-      e ∙ ap (λ (n : ℕ). filledRows k5 soft count ++ drop n old) (sym (length-rows (rows-filled soft) count))
-      ∙ ap (λ (a : Said ℕ). leaves a (filledRows k5 soft count) old) (sym accepts)
+  leaves-rows = accepted-leaves said count accepts (filledRows k5 soft count) (count * 16) (length-rows (rows-filled soft) count)
 
 -- ---- hard bits
 

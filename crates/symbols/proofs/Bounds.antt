@@ -4,22 +4,23 @@ use mathlib.Core.Bool.{true, false, true≢false}
 use mathlib.Core.List.{List}
 use mathlib.Core.Logic.{_⊎_, inl, inr}
 use mathlib.Core.Path.{_≡_, refl, sym, ap, _∙_}
-use Prim.Native.Nat.{ℕ, zero, suc, _+_, _-_, _*_, _^_, _≤_, _<_, zero-le}
+use Prim.Native.Nat.{ℕ, zero, suc, _+_, _*_, _^_, _≤_, _<_, zero-le}
 use native.Mathlib.Nat.{lt-of-le-of-lt, mul-le-mul-right}
 use native.Mathlib.Omega.{arith}
 use lib.Dec.{lit<, lit≤}
 use lib.Ieee.{Float, nan, binary32, ofBits, neg, lt}
-use lib.ListN.{getD, getD-replicate}
+use lib.ListN.{getD}
 use Rattle.best_path.proofs.Metrics.{metric-kept}
+use Rattle.best_path.proofs.Start.{started-holds}
 use Rattle.f32s.specs.Bounded.{Between, UpTo}
-use Rattle.f32s.specs.Single.{within}
+use Rattle.f32s.specs.Single.{zero32, within}
 use Rattle.f32s.proofs.Bounded.{sum-up-to, difference-square-up-to, wider-between, lt-mark}
 use Rattle.f32s.proofs.Ordered.{lt-irrefl}
 use Rattle.refusal.specs.Limits.{most}
 use Rattle.trellis.specs.declared.ConvCode.{ConvCode}
 use Rattle.trellis.specs.State.{window, parityOf}
 use Rattle.symbols.specs.declared.phasors.Phasor.{Phasor}
-use Rattle.symbols.specs.Costs.{zero32, one32, phasors, phasorOf, cost, costs, mark, smallest, started}
+use Rattle.symbols.specs.Costs.{one32, phasors, phasorOf, cost, costs, mark, smallest, started}
 use Rattle.symbols.specs.Decode.{symbolCosts, mets}
 
 -- ---- a cost
@@ -93,8 +94,7 @@ abbrev pub metricAt : ConvCode → List Float → ℕ → ℕ → Float
 metricAt code soft t s = getD (mets code soft t) s mark
 
 pub started-bounded : (code : ConvCode) (s : ℕ) → s < 2 ^ code .width → MarkOrUpTo 0 (getD (started code) s mark)
-started-bounded code zero h = inr (unfold ofBits in record { lies = zero-le })
-started-bounded code (suc s) h = inl (getD-replicate (2 ^ code .width - 1) s mark mark (omega arith))
+started-bounded code s h = started-holds smallest code zero32 (MarkOrUpTo 0) (inr (unfold ofBits in record { lies = zero-le })) (inl refl) s
 
 module _ (code : ConvCode) (some : 0 < code .width) (soft : List Float) (n : ℕ) (few : 257 * n ≤ 2 ^ 24) (all-within : (i : ℕ) → i < 2 * n → within (getD soft i nan) ≡ true) where
   abbrev Bounded : ℕ → Float → Type 0

@@ -10,9 +10,9 @@ use lib.Ieee.{Float, nan, binary32, ofBits, neg, le}
 use lib.ListN.{length, getD, set, take, drop}
 use lib.Seq.{take-length, paste, paste-suc, paste-zero}
 use Rattle.f32s.specs.Single.{within}
+use Rattle.refusal.specs.First.{firstBad}
 use Rattle.symbols.specs.Costs.{phasorOf}
 use Rattle.symbols.specs.Said.{phasorsOf}
-use Rattle.symbols.specs.Used.{firstBeyond}
 use Rattle.symbols.specs.declared.phasors.Phasor.{Phasor}
 
 pub length-phasors : (bits : List ℕ) → length (phasorsOf bits) ≡ 2 * (length bits / 2)
@@ -114,8 +114,8 @@ phasor-within (suc zero) (suc zero) h g = (refl, refl)
 phasor-within (suc zero) (suc (suc c1)) h g = absurd (omega arith)
 phasor-within (suc (suc c0)) c1 h g = absurd (omega arith)
 
-pub none-beyond : (bits : List ℕ) → firstBeyond (phasorsOf bits) ≡ length (phasorsOf bits)
-unfolding firstBeyond phasorsOf
+pub none-beyond : (bits : List ℕ) → firstBad within (phasorsOf bits) ≡ length (phasorsOf bits)
+unfolding firstBad phasorsOf
 none-beyond [] = refl
 none-beyond (b ∷ []) = refl
 none-beyond (b0 ∷ b1 ∷ bits) =

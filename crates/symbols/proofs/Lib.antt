@@ -1,11 +1,10 @@
 -- Prices: a coded pair's cost among the four. Turn: one turn of a step's loop. Steps: symbols one after the other. Least: the first least state.
--- Examined: the first component beyond. Hard: the phasors of hard bits. Word: the way back. Answers: the refusals in their
+-- Hard: the phasors of hard bits. Word: the way back. Answers: the refusals in their
 -- order. Bounds: what a cost and a metric can come to. Unique: each contract allows one outcome at most.
 pub mod Prices
 pub mod Turn
 pub mod Steps
 pub mod Least
-pub mod Examined
 pub mod Hard
 pub mod Word
 pub mod Answers

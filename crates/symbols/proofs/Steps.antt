@@ -1,23 +1,23 @@
 -- Symbols one after the other: the metrics that the code holds are those after t symbols, and the rows of survivors grow. Assumes nothing.
-use mathlib.Core.List.{List, map}
-use mathlib.Core.Path.{_≡_, refl, sym, ap, ap₂, subst, _∙_}
+use mathlib.Core.List.{List}
+use mathlib.Core.Path.{_≡_, refl, ap, ap₂, subst}
 use Prim.Native.Nat.{ℕ, zero, suc, _+_, _*_}
-use native.Mathlib.Numerals.{add-one}
 use native.Mathlib.Omega.{arith}
 use lib.Dec.{lit<, lit≤}
 use lib.Ieee.{Float, nan}
 use lib.ListN.{length, getD, set, replicate}
-use Rattle.best_path.specs.Run.{stepFrom, metsAfter, survivors}
-use Rattle.best_path.specs.Step.{Cell}
-use Rattle.best_path.proofs.Rows.{Filled}
-use Rattle.best_path.proofs.Survivors.{step-held, length-mets, length-survivors, survivor-below}
+use Rattle.best_path.specs.Run.{metsAfter}
+use Rattle.best_path.proofs.Held.{Held, held-whole, held-mets, held-froms}
+use Rattle.best_path.proofs.Rows.{StateRows, survivor-rows}
+use Rattle.best_path.proofs.Survivors.{length-mets}
+use Rattle.f32s.specs.Single.{zero32}
 use Rattle.trellis.specs.Choice.{k5, codeOf}
 use Rattle.trellis.specs.declared.ConvCode.{ConvCode}
 use Rattle.trellis.specs.Post.{Halved, Crossed}
 use Rattle.trellis.proofs.Chosen.{code-narrow, code-ends}
-use Rattle.symbols.specs.Costs.{zero32, mark, smallest, costs, started}
-use Rattle.symbols.specs.Decode.{symbolCosts, mets, froms, filledRows}
-use Rattle.symbols.specs.Post.{stepped, newMets, newFroms}
+use Rattle.symbols.specs.Costs.{mark, smallest, costs, started}
+use Rattle.symbols.specs.Decode.{symbolCosts, mets, froms}
+use Rattle.symbols.specs.Post.{newMets, newFroms}
 
 -- what code 0 selects is K5, of 16 states
 pub chosen-k5 : (code : ConvCode) → code ≡ codeOf 0 → code ≡ k5
@@ -42,27 +42,23 @@ module _ (soft : List Float) where
   length-mets16 (suc t) = length-mets smallest k5 (lit< tt) (symbolCosts k5 soft) (started k5) t
 
   -- a row of survivors for each symbol, all of them states
-  pub rows-filled : Filled 16 (froms k5 soft) (filledRows k5 soft)
-  unfolding froms filledRows
-  rows-filled =
-      record {
-        none = refl;
-        more = λ t. refl;
-        sized = length-survivors smallest k5 (lit< tt) (symbolCosts k5 soft) (started k5);
-        below = survivor-below smallest k5 (lit< tt) (symbolCosts k5 soft) (started k5);
-      }
+  pub rows-filled : StateRows 16 (froms k5 soft)
+  unfolding froms
+  rows-filled = survivor-rows smallest k5 (lit< tt) (symbolCosts k5 soft) (started k5)
 
   module _ (pm : List Float) (re im : Float) (t : ℕ) (so-far : pm ≡ mets k5 soft t) (of-re : re ≡ getD soft (2 * t) nan) (of-im : im ≡ getD soft (2 * t + 1) nan) where
-    stepped-costs : stepped pm re im ≡ stepFrom smallest k5 (mets k5 soft t) (symbolCosts k5 soft t)
+    held : Held smallest k5 (symbolCosts k5 soft) (started k5) nan pm t
+    unfolding mets
+    held = held-whole smallest k5 (symbolCosts k5 soft) (started k5) nan pm t so-far (omega (arith, ap length so-far, length-mets16 t))
+
+    same-costs : costs k5 re im ≡ symbolCosts k5 soft t
     unfolding symbolCosts
-    stepped-costs =
-        step-held smallest k5 pm nan (costs k5 re im) (omega (arith, ap length so-far, length-mets16 t))
-        ∙ ap₂ (stepFrom smallest k5) so-far (ap₂ (costs k5) of-re of-im)
+    same-costs = ap₂ (costs k5) of-re of-im
 
     pub new-mets : newMets pm re im ≡ mets k5 soft (t + 1)
-    unfolding mets metsAfter
-    new-mets = ap (map (λ (c : Cell Float). c .met)) stepped-costs ∙ ap (mets k5 soft) (sym (add-one t))
+    unfolding mets
+    new-mets = held-mets smallest k5 (symbolCosts k5 soft) (started k5) nan pm t held (costs k5 re im) same-costs
 
     pub new-froms : newFroms pm re im ≡ froms k5 soft t
-    unfolding froms survivors mets
-    new-froms = ap (map (λ (c : Cell Float). c .from)) stepped-costs
+    unfolding froms
+    new-froms = held-froms smallest k5 (symbolCosts k5 soft) (started k5) nan pm t held (costs k5 re im) same-costs

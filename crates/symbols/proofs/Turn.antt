@@ -1,7 +1,7 @@
 -- One turn of a step's loop: a butterfly of the states 2n and 2n + 1 is the best way into n and into n + 8. Assumes nothing.
 use mathlib.Core.List.{List, _++_, append-nil}
 use mathlib.Core.Path.{_≡_, refl, _∙_}
-use Prim.Native.Nat.{ℕ, _+_, _-_, _*_, _≤_, _<_}
+use Prim.Native.Nat.{ℕ, _+_, _*_, _≤_, _<_}
 use native.Mathlib.Omega.{arith}
 use lib.Dec.{lit<}
 use lib.Ieee.{Float, nan}
@@ -9,20 +9,15 @@ use lib.ListN.{length, getD, drop, drop-of-length-le}
 use Rattle.best_path.specs.declared.Wing.{Wing}
 use Rattle.best_path.specs.Post.{cellOf, Winged}
 use Rattle.best_path.specs.Step.{Cell, best}
-use Rattle.best_path.proofs.Butterfly.{parity-bit, low-best, high-best}
+use Rattle.best_path.proofs.Butterfly.{crossed-bits, wing-best}
 use Rattle.best_path.proofs.Stored.{stored, stored-step}
-use Rattle.trellis.specs.Choice.{codeOf, k5}
-use Rattle.trellis.specs.Post.{Ends, Crossed}
+use Rattle.trellis.specs.Choice.{k5}
+use Rattle.trellis.specs.Post.{Crossed}
 use Rattle.trellis.specs.State.{window, parityOf}
-use Rattle.trellis.proofs.Chosen.{code-ends}
 use Rattle.symbols.specs.Costs.{smallest, cost, costs, phasorOf}
 use Rattle.symbols.specs.Post.{Priced, pairCost, newMets, newFroms}
 use Rattle.symbols.specs.declared.phasors.Prices.{Prices}
 use Rattle.symbols.proofs.Prices.{pair-cost, opposite-cost}
-
-ends5 : Ends k5
-unfolding codeOf
-ends5 = code-ends 0
 
 abbrev pub met-of : Cell Float → Float
 met-of c = c .met
@@ -50,25 +45,11 @@ module _ (pm : List Float) (re im : Float) where
       (of-x : x ≡ pairCost (getD c0 n 0) (getD c1 n 0) (r .of_00) (r .of_01) (r .of_10) (r .of_11))
       (of-y : y ≡ pairCost (getD c0 n 0) (getD c1 n 0) (r .of_11) (r .of_10) (r .of_01) (r .of_00)) (s : ℕ) (of-s : s ≡ 2 * n) (w : Wing)
       (winged : Winged smallest (getD pm (2 * n) nan) (getD pm (2 * n + 1) nan) s x y w) where
-    bit0 : getD c0 n 0 < 2
-    bit0 = omega (arith, crossed .first n h, parity-bit (k5 .g0) (window k5 (2 * n) 0))
-
-    bit1 : getD c1 n 0 < 2
-    bit1 = omega (arith, crossed .second n h, parity-bit (k5 .g1) (window k5 (2 * n) 0))
-
-    pub turned-low : cellOf (w .low) ≡ bestAt n 0
-    turned-low =
-        low-best smallest k5 (lit< tt) ends5 (λ (p q : ℕ). cost re im (phasorOf p q)) (costs k5 re im) by-pair n h (getD c0 n 0) (getD c1 n 0)
-        (crossed .first n h) (crossed .second n h) (λ (s : ℕ). getD pm s nan) x y s
-        (of-x ∙ pair-cost re im r priced (getD c0 n 0) (getD c1 n 0) bit0 bit1) (of-y ∙ opposite-cost re im r priced (getD c0 n 0) (getD c1 n 0) bit0 bit1) of-s
-        (cellOf (w .low)) (winged .low)
-
-    pub turned-high : cellOf (w .high) ≡ bestAt n 1
-    turned-high =
-        high-best smallest k5 (lit< tt) ends5 (λ (p q : ℕ). cost re im (phasorOf p q)) (costs k5 re im) by-pair n h (getD c0 n 0) (getD c1 n 0)
-        (crossed .first n h) (crossed .second n h) (λ (s : ℕ). getD pm s nan) x y s
-        (of-x ∙ pair-cost re im r priced (getD c0 n 0) (getD c1 n 0) bit0 bit1) (of-y ∙ opposite-cost re im r priced (getD c0 n 0) (getD c1 n 0) bit0 bit1) of-s
-        (cellOf (w .high)) (winged .high)
+    pub turned : (cellOf (w .low) ≡ bestAt n 0) × (cellOf (w .high) ≡ bestAt n 1)
+    turned =
+        let bits = crossed-bits k5 8 c0 c1 crossed n h in
+        wing-best k5 8 c0 c1 crossed n h smallest (λ (p q : ℕ). cost re im (phasorOf p q)) (costs k5 re im) by-pair (λ (s : ℕ). getD pm s nan) x y
+        (of-x ∙ pair-cost re im r priced (getD c0 n 0) (getD c1 n 0) (bits .0) (bits .1)) (of-y ∙ opposite-cost re im r priced (getD c0 n 0) (getD c1 n 0) (bits .0) (bits .1)) s of-s w winged
 
   -- ---- all turns
 

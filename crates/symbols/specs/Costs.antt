@@ -1,15 +1,14 @@
 -- The phasor table, and what a branch costs in f32, each operation rounded once. Definitions only.
 use mathlib.Core.List.{List, [], _∷_}
-use Prim.Native.Nat.{ℕ, _+_, _-_, _*_, _^_}
+use Prim.Native.Nat.{ℕ, _+_, _*_}
 use lib.Ieee.{Float, binary32, ofBits, neg, add, sub, mul, lt}
-use lib.ListN.{getD, replicate}
+use lib.ListN.{getD}
 use Rattle.best_path.specs.Metric.{Metric}
+use Rattle.best_path.specs.Run.{startedAt}
+use Rattle.f32s.specs.Single.{zero32}
 use Rattle.trellis.specs.declared.ConvCode.{ConvCode}
 use Rattle.trellis.specs.State.{window, parityOf}
 use Rattle.symbols.specs.declared.phasors.Phasor.{Phasor}
-
-abbrev pub zero32 : Float
-zero32 = ofBits binary32 0
 
 abbrev pub one32 : Float
 one32 = ofBits binary32 0x3f80_0000
@@ -51,6 +50,6 @@ smallest =
       better = λ (x y : Float). lt x y;
     }
 
--- State 0 starts at 0.0; the others are unreachable.
+-- State 0 starts at 0.0.
 abbrev pub started : ConvCode → List Float
-started code = zero32 ∷ replicate (2 ^ code .width - 1) mark
+started code = startedAt smallest code zero32

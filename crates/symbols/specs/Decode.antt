@@ -1,9 +1,10 @@
 -- The block decoder of symbols: its word, and what it leaves in scratch. Definitions only.
 use mathlib.Core.Bool.{cond}
-use mathlib.Core.List.{List, [], _++_}
+use mathlib.Core.List.{List}
 use Prim.Native.Nat.{ℕ, zero, suc, _+_, _*_, _^_}
 use lib.Ieee.{Float, nan, lt}
 use lib.ListN.{getD}
+use Rattle.best_path.specs.Rows.{firstRows}
 use Rattle.best_path.specs.Run.{metsAfter, survivors, traced}
 use Rattle.trellis.specs.declared.ConvCode.{ConvCode}
 use Rattle.symbols.specs.Costs.{mark, smallest, costs, started}
@@ -34,7 +35,5 @@ module _ (code : ConvCode) (soft : List Float) where
   word count = traced smallest code froms count (firstLeast (mets count) (2 ^ code .width))
 
   -- the survivor numbers of t symbols, row by row
-  unfoldable pub filledRows : ℕ → List ℕ
-  unfolding froms
-  filledRows zero = []
-  filledRows (suc t) = filledRows t ++ froms t
+  abbrev pub filledRows : ℕ → List ℕ
+  filledRows t = firstRows froms t

@@ -1,19 +1,19 @@
 -- What `viterbi_decode` and `viterbi_decode_hard` answer, for every input. Definitions only.
-use mathlib.Core.Bool.{cond}
 use mathlib.Core.List.{List, [], _∷_}
 use Prim.Native.Nat.{ℕ, _*_, _/_, _%_, _^_}
 use lib.Dec.{ltb}
 use lib.Ieee.{Float}
 use lib.ListN.{length, take}
-use Rattle.refusal.specs.Answer.{Said, accepted, refused, refuseWhen}
+use Rattle.f32s.specs.Single.{within}
+use Rattle.refusal.specs.Answer.{Said, accepted, refuseWhen}
+use Rattle.refusal.specs.First.{firstBad, refuseAtBad}
 use Rattle.refusal.specs.Limits.{most}
 use Rattle.trellis.specs.Choice.{k5}
 use Rattle.symbols.specs.Costs.{phasorOf}
-use Rattle.symbols.specs.Used.{firstBeyond}
 
 -- refusal 7 at the first component that is NaN or beyond ±1,024
 abbrev pub examined : {A : Type 0} → List Float → Said A → Said A
-examined used rest = cond (ltb (firstBeyond used) (length used)) (refused 7 (firstBeyond used)) rest
+examined used rest = refuseAtBad 7 within used rest
 
 -- so many symbols, a byte each for the output and a row of survivors each for scratch
 abbrev pub roomFor : {A : Type 0} → (count room scratch : ℕ) → Said A → Said A
@@ -25,7 +25,7 @@ abbrev pub symbolsIn : {A : Type 0} → List A → ℕ
 symbolsIn list = length list / 2
 
 unfoldable pub softSaid : List Float → (room scratch : ℕ) → Said ℕ
-unfolding firstBeyond
+unfolding firstBad
 softSaid soft room scratch =
     roomFor (symbolsIn soft) room scratch (examined (take (2 * symbolsIn soft) soft) (accepted (symbolsIn soft)))
 

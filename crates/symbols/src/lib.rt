@@ -3,12 +3,13 @@ ghost use mathlib.Core.List.{_++_};
 ghost use mathlib.Core.Path.{_≡_};
 ghost use Prim.Native.Nat.{_*_, _/_, _≤_};
 ghost use lib.ListN.{length, drop};
+ghost use Rattle.f32s.specs.Single.{within};
 ghost use Rattle.refusal.specs.Answer.{countSaid};
+ghost use Rattle.refusal.specs.First.{firstBad};
 ghost use Rattle.refusal.specs.Lent.{leaves};
 ghost use Rattle.trellis.specs.Choice.{k5};
 ghost use Rattle.symbols.specs.Decode.{word, filledRows};
 ghost use Rattle.symbols.specs.Said.{symbolsIn, softSaid, hardSaid, phasorsOf};
-ghost use Rattle.symbols.specs.Used.{firstBeyond};
 
 pub mod branches;
 pub mod forward_pass;
@@ -21,7 +22,7 @@ use refusal::Refusal;
 
 // The index of the first component that is NaN or beyond ±1,024, and the length where none is.
 fn first_beyond(used: &[f32]) -> usize
-    ensures { λ r. ⌜ r ≡ firstBeyond (now (used .entry)) ⌝ }
+    ensures { λ r. ⌜ r ≡ firstBad within (now (used .entry)) ⌝ }
 {
     let count = used.len();
     for i in 0..count {

@@ -1,37 +1,29 @@
--- Of each function, any two outcomes that its contract allows are equal. Assumes nothing.
+-- Of each function, any two outcomes that its contract allows are equal. `Post` is the contract: of what the call is given, what it returns, and what it
+-- leaves in each argument. The two in place have contracts over named records, which their laws are about. Assumes nothing.
 use mathlib.Core.List.{List}
-use mathlib.Core.Path.{_≡_}
-use Prim.Native.Nat.{ℕ, _/_}
+use mathlib.Core.Path.{_≡_, sym, _∙_}
+use Prim.Native.Nat.{ℕ}
 use lib.Ieee.{Float}
 use lib.ListN.{length}
-use Rattle.refusal.specs.Answer.{doorNumber}
 use Rattle.refusal.specs.Lent.{leaves}
-use Rattle.refusal.proofs.Determined.{Determined₂, Determined₃, list-determined, lists-determined, itself-told}
+use Rattle.refusal.proofs.Determined.{Determined₂, Determined₃}
 use Rattle.streaming.specs.declared.StreamingViterbi.{StreamingViterbi}
 use Rattle.streaming.specs.Flush.{flushGives}
 use Rattle.streaming.specs.Held.{lag, held}
 use Rattle.streaming.specs.Said.{flushSaid}
 use Rattle.streaming.proofs.Unique.{held-told}
-use Rattle.symbols.specs.Decode.{word, filledRows}
-use Rattle.symbols.specs.Said.{symbolsIn, softSaid}
 use Rattle.trellis.specs.Choice.{k5}
 use Rattle.timing.specs.Number.{FeedsNumber, FlushesNumber}
-use Rattle.timing.specs.Stream.{bitsAfter, streamSaid}
+use Rattle.timing.proofs.timed_viterbi_decode.Reads as timed-viterbi-decode
+use Rattle.timing.proofs.timed_stream.Reads as timed-stream
 
 pub timed-decode-determined :
-    (soft : List Float) (old slots : List ℕ) →
-    Determined₃ (λ (r : ℕ) (out scratch : List ℕ).
-    (r ≡ doorNumber (softSaid soft (length old) (length slots)))
-    × (out ≡ leaves (softSaid soft (length old) (length slots)) (word k5 soft (symbolsIn soft)) old)
-    × (scratch ≡ leaves (softSaid soft (length old) (length slots)) (filledRows k5 soft (symbolsIn soft)) slots))
-timed-decode-determined soft old slots = lists-determined itself-told
+    (κs : _) (given : _) (r r' : ℕ) (left left' : _) → timed-viterbi-decode.Post κs given r left → timed-viterbi-decode.Post κs given r' left' → (r ≡ r') × (left .1 .0 .now ≡ left' .1 .0 .now) × (left .1 .1 .0 .now ≡ left' .1 .1 .0 .now)
+timed-decode-determined κs given r r' left left' p q = (p .0 ∙ sym (q .0), p .1 .0 ∙ sym (q .1 .0), p .1 .1 ∙ sym (q .1 .1))
 
 pub timed-stream-determined :
-    (soft : List Float) (old : List ℕ) →
-    Determined₂ (λ (r : ℕ) (out : List ℕ).
-    (r ≡ doorNumber (streamSaid soft (length old)))
-    × (out ≡ leaves (streamSaid soft (length old)) (bitsAfter soft (length soft / 2)) old))
-timed-stream-determined soft old = list-determined itself-told
+    (κs : _) (given : _) (r r' : ℕ) (left left' : _) → timed-stream.Post κs given r left → timed-stream.Post κs given r' left' → (r ≡ r') × (left .1 .0 .now ≡ left' .1 .0 .now)
+timed-stream-determined κs given r r' left left' p q = (p .0 ∙ sym (q .0), p .1 ∙ sym (q .1))
 
 pub timed-feed-determined : (d : StreamingViterbi) (re im : Float) → Determined₂ (FeedsNumber d re im)
 timed-feed-determined d re im r r' left left' p q = (cc, held-told left left' (cc))

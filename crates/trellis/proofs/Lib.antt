@@ -1,5 +1,5 @@
 -- Cells: the register as a number. States: what steps do to states. Ends: what a tap word's end bits do. Even: the coded bits of the even states. Kept: how many places are kept. Sent: what is sent.
--- Columns: a keep pattern as the code holds it. Chosen: what holds of every code and pattern that a number selects.
+-- Columns: a keep pattern as the code holds it. Chosen: what holds of every code and pattern that a number selects. Unique: each contract allows one outcome at most.
 pub mod Cells
 pub mod States
 pub mod Ends
@@ -8,3 +8,4 @@ pub mod Kept
 pub mod Columns
 pub mod Sent
 pub mod Chosen
+pub mod Unique

@@ -1,8 +1,7 @@
--- Of each entry, any two outcomes that its contract allows are equal: `writer` and `reader` tell two records apart, field by field. Assumes nothing.
-use mathlib.Core.Path.{_≡_, ap, ap₂}
-use Prim.Native.Nat.{ℕ}
+-- Of each entry, any two outcomes that its contract allows are equal. `Post` is the contract: of what the call is given, what it returns, and what it
+-- leaves in each argument. `writer` and `reader` tell two records apart, field by field. Assumes nothing.
+use mathlib.Core.Path.{_≡_, ap, ap₂, sym, _∙_}
 use Rattle.refusal.proofs.Told.{done-told}
-use Rattle.refusal.proofs.Determined.{Determined, answer-determined}
 use Rattle.refusal.specs.declared.Put.{Put}
 use Rattle.varicode.specs.declared.VaricodeEncoder.{VaricodeEncoder}
 use Rattle.varicode.specs.declared.VaricodeDecoder.{VaricodeDecoder}
@@ -11,9 +10,17 @@ use Rattle.varicode.specs.declared.Wrote.{Wrote}
 use Rattle.varicode.specs.declared.NextBit.{NextBit}
 use Rattle.varicode.specs.declared.Fed.{Fed}
 use Rattle.varicode.specs.declared.NextChar.{NextChar}
-use Rattle.varicode.specs.Writer.{Writer, Call, opening, byte, closing, freshWriter}
-use Rattle.varicode.specs.Reader.{Reader, freshReader}
-use Rattle.varicode.specs.Held.{writer, reader, Puts, GivesBit, Feeds, GivesChar}
+use Rattle.varicode.specs.Writer.{Writer, Call}
+use Rattle.varicode.specs.Reader.{Reader}
+use Rattle.varicode.specs.Held.{writer, reader, Puts}
+use Rattle.varicode.proofs.VaricodeEncoder.new.Reads as new-encoder
+use Rattle.varicode.proofs.VaricodeEncoder.push_preamble.Reads as push-preamble
+use Rattle.varicode.proofs.VaricodeEncoder.push_byte.Reads as push-byte
+use Rattle.varicode.proofs.VaricodeEncoder.push_postamble.Reads as push-postamble
+use Rattle.varicode.proofs.VaricodeEncoder.next_bit.Reads as next-bit
+use Rattle.varicode.proofs.VaricodeDecoder.new.Reads as new-decoder
+use Rattle.varicode.proofs.VaricodeDecoder.push_bit.Reads as push-bit
+use Rattle.varicode.proofs.VaricodeDecoder.pop_char.Reads as pop-char
 
 -- ---- the writer
 
@@ -24,29 +31,34 @@ encoderOf w = record { pending = record { slots = w .pending .slots; head = w .p
 pub writer-told : (d e : VaricodeEncoder) → writer d ≡ writer e → d ≡ e
 writer-told d e = ap encoderOf
 
-pub new-encoder-determined : Determined (λ (r : VaricodeEncoder). writer r ≡ freshWriter)
-new-encoder-determined = answer-determined writer-told
+pub new-encoder-determined :
+    (κs : _) (given : _) (r r' : VaricodeEncoder) (left left' : _) → new-encoder.Post κs given r left → new-encoder.Post κs given r' left' → r ≡ r'
+new-encoder-determined κs given r r' left left' p q = writer-told r r' (p ∙ sym q)
 
 abbrev wrote : Put → VaricodeEncoder → Wrote
 wrote a e = record { answer = a; encoder = e }
 
-puts-determined : (e : VaricodeEncoder) (c : Call) → Determined (Puts e c)
-puts-determined e c r r' p q = ap₂ wrote (done-told (r .answer) (r' .answer) (cc)) (writer-told (r .encoder) (r' .encoder) (cc))
+puts-determined : (e : VaricodeEncoder) (c : Call) (r r' : Wrote) → Puts e c r → Puts e c r' → r ≡ r'
+puts-determined e c r r' p q = ap₂ wrote (done-told (r .answer) (r' .answer) (p .answer ∙ sym (q .answer))) (writer-told (r .encoder) (r' .encoder) (p .state ∙ sym (q .state)))
 
-pub push-preamble-determined : (e : VaricodeEncoder) (n : ℕ) → Determined (Puts e (opening n))
-push-preamble-determined e n = puts-determined e (opening n)
+pub push-preamble-determined :
+    (κs : _) (given : _) (r r' : Wrote) (left left' : _) → push-preamble.Post κs given r left → push-preamble.Post κs given r' left' → r ≡ r'
+push-preamble-determined κs given r r' left left' p q = puts-determined _ _ r r' p q
 
-pub push-byte-determined : (e : VaricodeEncoder) (b : ℕ) → Determined (Puts e (byte b))
-push-byte-determined e b = puts-determined e (byte b)
+pub push-byte-determined :
+    (κs : _) (given : _) (r r' : Wrote) (left left' : _) → push-byte.Post κs given r left → push-byte.Post κs given r' left' → r ≡ r'
+push-byte-determined κs given r r' left left' p q = puts-determined _ _ r r' p q
 
-pub push-postamble-determined : (e : VaricodeEncoder) (n : ℕ) → Determined (Puts e (closing n))
-push-postamble-determined e n = puts-determined e (closing n)
+pub push-postamble-determined :
+    (κs : _) (given : _) (r r' : Wrote) (left left' : _) → push-postamble.Post κs given r left → push-postamble.Post κs given r' left' → r ≡ r'
+push-postamble-determined κs given r r' left left' p q = puts-determined _ _ r r' p q
 
 abbrev nextBit : Taken → VaricodeEncoder → NextBit
 nextBit a e = record { answer = a; encoder = e }
 
-pub next-bit-determined : (e : VaricodeEncoder) → Determined (GivesBit e)
-next-bit-determined e r r' p q = ap₂ nextBit (cc) (writer-told (r .encoder) (r' .encoder) (cc))
+pub next-bit-determined :
+    (κs : _) (given : _) (r r' : NextBit) (left left' : _) → next-bit.Post κs given r left → next-bit.Post κs given r' left' → r ≡ r'
+next-bit-determined κs given r r' left left' p q = ap₂ nextBit (p .answer ∙ sym (q .answer)) (writer-told (r .encoder) (r' .encoder) (p .state ∙ sym (q .state)))
 
 -- ---- the reader
 
@@ -63,17 +75,20 @@ decoderOf r =
 pub reader-told : (d e : VaricodeDecoder) → reader d ≡ reader e → d ≡ e
 reader-told d e = ap decoderOf
 
-pub new-decoder-determined : Determined (λ (r : VaricodeDecoder). reader r ≡ freshReader)
-new-decoder-determined = answer-determined reader-told
+pub new-decoder-determined :
+    (κs : _) (given : _) (r r' : VaricodeDecoder) (left left' : _) → new-decoder.Post κs given r left → new-decoder.Post κs given r' left' → r ≡ r'
+new-decoder-determined κs given r r' left left' p q = reader-told r r' (p ∙ sym q)
 
 abbrev fed : Put → VaricodeDecoder → Fed
 fed a d = record { answer = a; decoder = d }
 
-pub push-bit-determined : (d : VaricodeDecoder) (bit : ℕ) → Determined (Feeds d bit)
-push-bit-determined d bit r r' p q = ap₂ fed (done-told (r .answer) (r' .answer) (cc)) (reader-told (r .decoder) (r' .decoder) (cc))
+pub push-bit-determined :
+    (κs : _) (given : _) (r r' : Fed) (left left' : _) → push-bit.Post κs given r left → push-bit.Post κs given r' left' → r ≡ r'
+push-bit-determined κs given r r' left left' p q = ap₂ fed (done-told (r .answer) (r' .answer) (p .answer ∙ sym (q .answer))) (reader-told (r .decoder) (r' .decoder) (p .state ∙ sym (q .state)))
 
 abbrev nextChar : Taken → VaricodeDecoder → NextChar
 nextChar a d = record { answer = a; decoder = d }
 
-pub pop-char-determined : (d : VaricodeDecoder) → Determined (GivesChar d)
-pop-char-determined d r r' p q = ap₂ nextChar (cc) (reader-told (r .decoder) (r' .decoder) (cc))
+pub pop-char-determined :
+    (κs : _) (given : _) (r r' : NextChar) (left left' : _) → pop-char.Post κs given r left → pop-char.Post κs given r' left' → r ≡ r'
+pop-char-determined κs given r r' left left' p q = ap₂ nextChar (p .answer ∙ sym (q .answer)) (reader-told (r .decoder) (r' .decoder) (p .state ∙ sym (q .state)))

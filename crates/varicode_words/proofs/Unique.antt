@@ -1,15 +1,19 @@
--- Of each entry, any two outcomes that its contract allows are equal. Assumes nothing.
-use mathlib.Core.Path.{_≡_, ap₂}
+-- Of each entry, any two outcomes that its contract allows are equal. `Post` is the contract: of what the call is given, what it returns, and what it
+-- leaves in each argument. Assumes nothing.
+use mathlib.Core.Path.{_≡_, ap₂, sym, _∙_}
 use Prim.Native.Nat.{ℕ}
-use Rattle.varicode_words.specs.declared.Word.{Word}
 use Rattle.varicode_words.specs.declared.Letter.{Letter}
-use Rattle.varicode_words.specs.Word.{Written, decodeOf}
+use Rattle.varicode_words.specs.declared.Word.{Word}
+use Rattle.varicode_words.proofs.varicode_encode.Reads as varicode-encode
+use Rattle.varicode_words.proofs.varicode_decode.Reads as varicode-decode
 
 abbrev made : ℕ → ℕ → Word
 made b n = record { bits = b; len = n }
 
-pub varicode-encode-determined : (byte : ℕ) (r r' : Word) → Written byte r → Written byte r' → r ≡ r'
-varicode-encode-determined byte r r' p q = ap₂ made (cc) (cc)
+pub varicode-encode-determined :
+    (κs : _) (given : _) (r r' : Word) (left left' : _) → varicode-encode.Post κs given r left → varicode-encode.Post κs given r' left' → r ≡ r'
+varicode-encode-determined κs given r r' left left' p q = ap₂ made (p .bits ∙ sym (q .bits)) (p .len ∙ sym (q .len))
 
-pub varicode-decode-determined : (bits len : ℕ) (r r' : Letter) → r ≡ decodeOf bits len → r' ≡ decodeOf bits len → r ≡ r'
-varicode-decode-determined bits len r r' p q = cc
+pub varicode-decode-determined :
+    (κs : _) (given : _) (r r' : Letter) (left left' : _) → varicode-decode.Post κs given r left → varicode-decode.Post κs given r' left' → r ≡ r'
+varicode-decode-determined κs given r r' left left' p q = p ∙ sym q

@@ -4,21 +4,20 @@ use Prim.Native.Nat.{_-_, _≤_}
 use native.Mathlib.Omega.{arith}
 use lib.ListN.{length}
 use borrow.Author.Needs.{needs}
-use Rattle.readings.specs.Used.{firstBad}
-use lib.Ieee.{nan}
+use Rattle.f32s.specs.Single.{finite}
+use Rattle.refusal.specs.First.{firstBad}
 use Rattle.refusal.proofs.FirstBad.{badFrom, bad-from-start, bad-here, bad-later, bad-past}
-use Rattle.readings.proofs.Examined.{first-bad-is}
 use Rattle.readings.proofs.first_bad.Statement.{statement}
 use Rattle.readings.proofs.first_bad.Tie as tie
 
 abbrev Inv-loop : tie.InvT-loop
-Inv-loop readings used i₀ i = (i ≤ length readings) × (firstBad readings ≡ badFrom firstBad i readings)
+Inv-loop readings used i₀ i = (i ≤ length readings) × (firstBad finite readings ≡ badFrom finite i readings)
 
 abbrev μ-loop : tie.MeasureT-loop
 μ-loop readings used i₀ i = used - i
 
 loop-holds : tie.Need-loop-holds Inv-loop μ-loop
-loop-holds c = (omega arith, bad-from-start first-bad-is nan _)
+loop-holds c = (omega arith, bad-from-start finite _)
 
 mul-is-finite : tie.Need-mul-is-finite Inv-loop μ-loop
 mul-is-finite c = omega arith
@@ -32,7 +31,7 @@ is-finite-requires c κs = tt
 returns : tie.Need-returns Inv-loop μ-loop
 returns c =
     let so-far = c .before .before .before .before .loop in
-    sym (so-far .inv .1 ∙ bad-here first-bad-is nan (so-far .i) _ (omega arith) _ (c .before .is-finite .ensures) (c .if1 .taken))
+    sym (so-far .inv .1 ∙ bad-here finite (so-far .i) _ (omega arith) _ (c .before .is-finite .ensures) (c .if1 .taken))
 
 add-i : tie.Need-add-i Inv-loop μ-loop
 add-i c = omega arith
@@ -43,10 +42,10 @@ loop-less c = omega arith
 loop-again : tie.Need-loop-again Inv-loop μ-loop
 loop-again c =
     let so-far = c .before .before .before .before .loop in
-    (omega arith, so-far .inv .1 ∙ bad-later first-bad-is nan (so-far .i) _ (omega arith) _ (c .before .is-finite .ensures) (c .if1 .left))
+    (omega arith, so-far .inv .1 ∙ bad-later finite (so-far .i) _ (omega arith) _ (c .before .is-finite .ensures) (c .if1 .left))
 
 returns-2 : tie.Need-returns-2 Inv-loop μ-loop
-returns-2 c = sym (c .before .loop .inv .1 ∙ bad-past first-bad-is nan _ _ (c .before .loop .inv .0) (omega arith))
+returns-2 c = sym (c .before .loop .inv .1 ∙ bad-past finite _ _ (c .before .loop .inv .0) (omega arith))
 
 pub first-bad-spec : {M : Type 1} → statement M
 first-bad-spec =

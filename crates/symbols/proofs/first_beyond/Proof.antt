@@ -3,21 +3,20 @@ use mathlib.Core.Path.{_≡_, sym, _∙_}
 use Prim.Native.Nat.{_-_, _≤_}
 use native.Mathlib.Omega.{arith}
 use lib.ListN.{length}
-use Rattle.symbols.specs.Used.{firstBeyond}
-use lib.Ieee.{nan}
+use Rattle.f32s.specs.Single.{within}
+use Rattle.refusal.specs.First.{firstBad}
 use Rattle.refusal.proofs.FirstBad.{badFrom, bad-from-start, bad-here, bad-later, bad-past}
-use Rattle.symbols.proofs.Examined.{first-beyond-is}
 use Rattle.symbols.proofs.first_beyond.Statement.{statement}
 use Rattle.symbols.proofs.first_beyond.Tie as tie
 
 abbrev Inv-loop : tie.InvT-loop
-Inv-loop used count i₀ i = (i ≤ length used) × (firstBeyond used ≡ badFrom firstBeyond i used)
+Inv-loop used count i₀ i = (i ≤ length used) × (firstBad within used ≡ badFrom within i used)
 
 abbrev μ-loop : tie.MeasureT-loop
 μ-loop used count i₀ i = count - i
 
 loop-holds : tie.Need-loop-holds Inv-loop μ-loop
-loop-holds c = (omega arith, bad-from-start first-beyond-is nan _)
+loop-holds c = (omega arith, bad-from-start within _)
 
 mul-within : tie.Need-mul-within Inv-loop μ-loop
 mul-within c = omega arith
@@ -31,7 +30,7 @@ within-requires c κs = tt
 returns : tie.Need-returns Inv-loop μ-loop
 returns c =
     let so-far = c .before .before .before .before .loop in
-    sym (so-far .inv .1 ∙ bad-here first-beyond-is nan (so-far .i) _ (omega arith) _ (c .before .within .ensures) (c .if1 .taken))
+    sym (so-far .inv .1 ∙ bad-here within (so-far .i) _ (omega arith) _ (c .before .within .ensures) (c .if1 .taken))
 
 add-i : tie.Need-add-i Inv-loop μ-loop
 add-i c = omega arith
@@ -42,10 +41,10 @@ loop-less c = omega arith
 loop-again : tie.Need-loop-again Inv-loop μ-loop
 loop-again c =
     let so-far = c .before .before .before .before .loop in
-    (omega arith, so-far .inv .1 ∙ bad-later first-beyond-is nan (so-far .i) _ (omega arith) _ (c .before .within .ensures) (c .if1 .left))
+    (omega arith, so-far .inv .1 ∙ bad-later within (so-far .i) _ (omega arith) _ (c .before .within .ensures) (c .if1 .left))
 
 returns-2 : tie.Need-returns-2 Inv-loop μ-loop
-returns-2 c = sym (c .before .loop .inv .1 ∙ bad-past first-beyond-is nan _ _ (c .before .loop .inv .0) (omega arith))
+returns-2 c = sym (c .before .loop .inv .1 ∙ bad-past within _ _ (c .before .loop .inv .0) (omega arith))
 
 pub first-beyond-spec : {M : Type 1} → statement M
 first-beyond-spec =

@@ -6,7 +6,7 @@ use borrow.Author.Needs.{needs}
 use lib.ListN.{length, length-set}
 use Rattle.best_path.proofs.Stored.{stored, stored-none, stored-turn}
 use Rattle.symbols.specs.Post.{Priced}
-use Rattle.symbols.proofs.Turn.{metAt, fromAt, met-of, from-of, turned-low, turned-high, all-mets, all-froms}
+use Rattle.symbols.proofs.Turn.{metAt, fromAt, met-of, from-of, turned, all-mets, all-froms}
 use Rattle.symbols.proofs.forward_pass.step.Statement.{statement}
 use Rattle.symbols.proofs.forward_pass.step.Tie as tie
 
@@ -121,15 +121,13 @@ loop-again c =
     let x = c .before .before .before .before .before .before .before .before .cost-of-pair .ensures in
     let y = c .before .before .before .before .before .cost-of-pair2 .ensures in
     let winged = c .before .before .butterfly .ensures in
-    let low =
-    turned-low (start .args .pm .now) (start .args .re) (start .args .im) (start .args .c0 .now) (start .args .c1 .now) (start .pre .0) _ priced (loop .n) below _ _ x y (loop .s) (loop .inv .1) _ winged in
-    let high =
-    turned-high (start .args .pm .now) (start .args .re) (start .args .im) (start .args .c0 .now) (start .args .c1 .now) (start .pre .0) _ priced (loop .n) below _ _ x y (loop .s) (loop .inv .1) _ winged in (
+    let cells =
+    turned (start .args .pm .now) (start .args .re) (start .args .im) (start .args .c0 .now) (start .args .c1 .now) (start .pre .0) _ priced (loop .n) below _ _ x y (loop .s) (loop .inv .1) _ winged in (
       omega arith,
       omega arith,
       simp length-set (loop .inv .2),
-      stored-turn 8 _ (start .args .next .now) (loop .n) (loop .next) _ _ (loop .inv .3) (ap met-of low) (ap met-of high),
-      stored-turn 8 _ (start .args .row .now) (loop .n) (loop .row) _ _ (loop .inv .4) (ap from-of low) (ap from-of high),
+      stored-turn 8 _ (start .args .next .now) (loop .n) (loop .next) _ _ (loop .inv .3) (ap met-of (cells .0)) (ap met-of (cells .1)),
+      stored-turn 8 _ (start .args .row .now) (loop .n) (loop .row) _ _ (loop .inv .4) (ap from-of (cells .0)) (ap from-of (cells .1)),
     )
 
 same-length : tie.Need-same-length Inv-loop μ-loop

@@ -2,7 +2,8 @@
 use mathlib.Core.Path.{_≡_}
 use borrow.Author.Needs.{needs}
 use lib.Ieee.{Float, binary32, ofBits, neg}
-use Rattle.symbols.specs.Costs.{zero32, cost, phasorOf}
+use Rattle.f32s.specs.Single.{zero32}
+use Rattle.symbols.specs.Costs.{cost, phasorOf}
 use Rattle.symbols.proofs.phasors.prices_of.Statement.{statement}
 use Rattle.symbols.proofs.phasors.prices_of.Tie as tie
 

@@ -11,25 +11,27 @@ use borrow.Author.Tests.{ltb-true, ltb-false}
 use lib.Dec.{ltb, eqb}
 use lib.Ieee.{Float, binary32, ofBits, add, sub, neg, lt, le}
 use lib.IntN.{ℤ, pos, negsuc, negℤ, natAbs, subℕ, _+ℤ_, _-ℤ_}
-use lib.ListN.{length, getD, take, getD-replicate, List·getD-eq-default}
+use lib.ListN.{length, getD, take, List·getD-eq-default}
 use lib.Pow.{pow-pos}
 use lib.Seq.{take-nil}
 use Rattle.best_path.specs.Run.{traced}
 use Rattle.best_path.specs.Path.{Total, none, total, wholes, added, isReached, larger, startedWhole}
 use Rattle.best_path.proofs.Simulation.{Simulates, mets-agree, survivors-agree, traced-agree}
+use Rattle.best_path.proofs.Start.{others-marked}
+use Rattle.f32s.specs.Single.{zero32}
 use Rattle.f32s.specs.Whole.{Whole}
 use Rattle.f32s.proofs.Ordered.{lt-trans, lt-irrefl}
 use Rattle.f32s.proofs.Wholes.{whole-zero, whole-neg, whole-add, whole-sub, whole-lt, mark-lt-whole, whole-not-le-mark}
+use Rattle.readings.specs.Places.{valueOf, filled, place0, place1}
+use Rattle.readings.specs.Sums.{mark, largest, correlation, brings, gain, started}
+use Rattle.readings.specs.Decode.{mets, froms, word, score}
+use Rattle.readings.proofs.Surplus.{gain-taken}
 use Rattle.trellis.specs.declared.ConvCode.{ConvCode}
 use Rattle.trellis.specs.Codeword.{stepsOf}
 use Rattle.trellis.specs.Keep.{Keep, Pattern, keeps0, keeps1, codedLength}
 use Rattle.trellis.specs.State.{window, parityOf}
 use Rattle.trellis.proofs.Kept.{one, coded-suc, coded-mono}
-use Rattle.readings.specs.Places.{valueOf, filled, place0, place1}
-use Rattle.readings.specs.Sums.{mark, largest, correlation, brings, gain, started}
-use Rattle.readings.specs.Decode.{mets, froms, word, score}
-use Rattle.readings.specs.Wholes.{WholeReadings, absSum, wholeAt, wholePlace0, wholePlace1, wholeCorrelation, wholeGain, wholeMets, wholeFroms, IsTotal}
-use Rattle.readings.proofs.Surplus.{gain-taken}
+use Rattle.best_word.specs.Wholes.{WholeReadings, absSum, wholeAt, wholePlace0, wholePlace1, wholeCorrelation, wholeGain, wholeMets, wholeFroms, IsTotal}
 
 -- ---- sizes
 
@@ -139,8 +141,7 @@ whole-not-lt-mark {x} w small = go (lt x mark) refl
 total-started : (code : ConvCode) (bound s : ℕ) → s < 2 ^ code .width → IsTotal bound (getD (started code) s mark) (getD (startedWhole code) s none)
 total-started code bound zero h = (whole-zero, omega arith)
 total-started code bound (suc s) h =
-    let others : s < 2 ^ code .width - 1 = omega arith in
-    rw (getD-replicate (2 ^ code .width - 1) s none none others) (getD-replicate (2 ^ code .width - 1) s mark mark others)
+    rw (others-marked wholes code (total (pos 0)) s) (others-marked largest code zero32 s)
 
 total-up : (bound more : ℕ) → bound ≤ more → (x : Float) (m : Total) → IsTotal bound x m → IsTotal more x m
 total-up bound more h x none k = k

@@ -16,9 +16,9 @@ use Rattle.trellis.specs.Keep.{Keep, Pattern, keeps0, keeps1, onlyIf, keptOf, k
 use Rattle.trellis.proofs.Kept.{one, length-only}
 use Rattle.trellis.proofs.Sent.{length-sent, tailed-bits, coded0-state, coded1-state}
 use Rattle.trellis.proofs.States.{Inputs}
-use Rattle.readings.specs.Claim.{agreement, InfoWord}
-use Rattle.readings.specs.Wholes.{wholeAt, wholePlace0, wholePlace1, wholeCorrelation, wholeGain}
-use Rattle.readings.proofs.WholeRun.{signedSum}
+use Rattle.best_word.specs.Claim.{agreement, InfoWord}
+use Rattle.best_word.specs.Wholes.{wholeAt, wholePlace0, wholePlace1, wholeCorrelation, wholeGain}
+use Rattle.best_word.proofs.WholeRun.{signedSum}
 
 -- ---- the agreement of a list in parts
 

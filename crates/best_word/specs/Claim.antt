@@ -11,11 +11,11 @@ use lib.ListN.{length, getD, take}
 use lib.Signed.{ltZ}
 use Rattle.best_path.specs.Path.{passes, Ahead}
 use Rattle.f32s.specs.Whole.{Whole}
+use Rattle.readings.specs.Decode.{word, score}
 use Rattle.trellis.specs.declared.ConvCode.{ConvCode}
 use Rattle.trellis.specs.Codeword.{stepsOf, zeroTailed, codeword}
 use Rattle.trellis.specs.Keep.{Keep, codedLength}
-use Rattle.readings.specs.Decode.{word, score}
-use Rattle.readings.specs.Wholes.{WholeReadings, absSum}
+use Rattle.best_word.specs.Wholes.{WholeReadings, absSum}
 
 -- 01's score: over the kept places the sum of the reading where the codeword has 0, and of its negative where it has 1. Missing readings are 0.
 unfoldable pub agreement : List ℕ → List ℤ → ℤ

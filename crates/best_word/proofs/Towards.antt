@@ -17,8 +17,8 @@ use Rattle.trellis.specs.Codeword.{coded0, coded1, sentBy, stepsOf, zeroTailed,
 use Rattle.trellis.specs.Keep.{Keep, keeps0, keeps1, onlyIf, keptOf, keptThrough}
 use Rattle.trellis.specs.Register.{codedBit}
 use Rattle.trellis.proofs.States.{Inputs}
-use Rattle.readings.specs.Claim.{agreement, Towards}
-use Rattle.readings.proofs.Score.{signedBy, agreement-cons}
+use Rattle.best_word.specs.Claim.{agreement, Towards}
+use Rattle.best_word.proofs.Score.{signedBy, agreement-cons}
 
 -- ---- what is sent is bits
 

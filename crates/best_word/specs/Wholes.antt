@@ -10,10 +10,10 @@ use lib.ListN.{length, getD}
 use Rattle.best_path.specs.Path.{Total, none, total, wholes, startedWhole}
 use Rattle.best_path.specs.Run.{metsAfter, survivors}
 use Rattle.f32s.specs.Whole.{Whole}
+use Rattle.readings.specs.Sums.{mark}
 use Rattle.trellis.specs.declared.ConvCode.{ConvCode}
 use Rattle.trellis.specs.Keep.{Keep, keeps0, keeps1, codedLength}
 use Rattle.trellis.specs.State.{window, parityOf}
-use Rattle.readings.specs.Sums.{mark}
 
 -- the readings are the whole numbers zs, one by one
 pub record WholeReadings (readings : List Float) (zs : List ℤ) : Type 0 where

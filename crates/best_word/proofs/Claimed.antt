@@ -12,18 +12,18 @@ use Rattle.best_path.specs.Path.{Ahead, gained}
 use Rattle.best_path.proofs.InfoWords.{BestInfo, info-leads, best-info-word}
 use Rattle.best_path.proofs.Order.{AtMost, ltZ-total, ltZ-irrefl, at-most-not-below, at-most-antisym, at-most-rest, ahead-asym}
 use Rattle.f32s.specs.Whole.{Whole}
+use Rattle.readings.specs.Decode.{word, score}
 use Rattle.trellis.specs.declared.ConvCode.{ConvCode}
 use Rattle.trellis.specs.Choice.{codeOf, patternOf}
 use Rattle.trellis.specs.Codeword.{stepsOf, codeword}
 use Rattle.trellis.specs.Keep.{Keep, Pattern, codedLength}
 use Rattle.trellis.proofs.Chosen.{code-narrow, rate-pattern}
 use Rattle.trellis.proofs.Sent.{length-codeword, tailed-bits}
-use Rattle.readings.specs.Claim.{InfoWord, Exact, Towards, scoreOf, statesOf, Claim}
-use Rattle.readings.specs.Decode.{word, score}
-use Rattle.readings.specs.Wholes.{wholeGain}
-use Rattle.readings.proofs.Score.{gained-codeword}
-use Rattle.readings.proofs.Towards.{codeword-bits, agreement-towards}
-use Rattle.readings.proofs.WholeRun.{word-whole, score-whole}
+use Rattle.best_word.specs.Claim.{InfoWord, Exact, Towards, scoreOf, statesOf, Claim}
+use Rattle.best_word.specs.Wholes.{wholeGain}
+use Rattle.best_word.proofs.Score.{gained-codeword}
+use Rattle.best_word.proofs.Towards.{codeword-bits, agreement-towards}
+use Rattle.best_word.proofs.WholeRun.{word-whole, score-whole}
 
 module _ (code : ConvCode) (some : 0 < code .width) (p : Keep) (good : Pattern p) (info : ℕ) where
   abbrev points : List ℕ → List ℤ → ℤ

@@ -1,0 +1,41 @@
+-- Of each function, any two outcomes that its contract allows are equal. `Post` is the contract: of what the call is given, what it returns, and what it
+-- leaves in each argument. `sent_by_even` has no such law: it
+-- leaves open what stands in its tables beyond half the states. Assumes nothing.
+use mathlib.Core.Path.{_≡_, ap₂, sym, _∙_}
+use Prim.Native.Nat.{ℕ}
+use Rattle.trellis.specs.declared.ConvCode.{ConvCode}
+use Rattle.trellis.specs.declared.KeepPattern.{KeepPattern}
+use Rattle.trellis.specs.declared.Pair.{Pair}
+use Rattle.trellis.proofs.conv_code.Reads as conv-code
+use Rattle.trellis.proofs.matrix.Reads as matrix
+use Rattle.trellis.proofs.branch_bits.Reads as branch-bits
+use Rattle.trellis.proofs.next_state.Reads as next-state
+use Rattle.trellis.proofs.next_column.Reads as next-column
+use Rattle.trellis.proofs.coded_len.Reads as coded-len
+
+abbrev made : ℕ → ℕ → Pair
+made c0 c1 = record { c0 = c0; c1 = c1 }
+
+pub conv-code-determined :
+    (κs : _) (given : _) (r r' : ConvCode) (left left' : _) → conv-code.Post κs given r left → conv-code.Post κs given r' left' → r ≡ r'
+conv-code-determined κs given r r' left left' p q = p ∙ sym q
+
+pub matrix-determined :
+    (κs : _) (given : _) (r r' : KeepPattern) (left left' : _) → matrix.Post κs given r left → matrix.Post κs given r' left' → r ≡ r'
+matrix-determined κs given r r' left left' p q = p ∙ sym q
+
+pub branch-bits-determined :
+    (κs : _) (given : _) (r r' : Pair) (left left' : _) → branch-bits.Post κs given r left → branch-bits.Post κs given r' left' → r ≡ r'
+branch-bits-determined κs given r r' left left' p q = ap₂ made (p .first ∙ sym (q .first)) (p .second ∙ sym (q .second))
+
+pub next-state-determined :
+    (κs : _) (given : _) (r r' : ℕ) (left left' : _) → next-state.Post κs given r left → next-state.Post κs given r' left' → r ≡ r'
+next-state-determined κs given r r' left left' p q = p ∙ sym q
+
+pub next-column-determined :
+    (κs : _) (given : _) (r r' : ℕ) (left left' : _) → next-column.Post κs given r left → next-column.Post κs given r' left' → r ≡ r'
+next-column-determined κs given r r' left left' p q = p ∙ sym q
+
+pub coded-len-determined :
+    (κs : _) (given : _) (r r' : ℕ) (left left' : _) → coded-len.Post κs given r left → coded-len.Post κs given r' left' → r ≡ r'
+coded-len-determined κs given r r' left left' p q = p ∙ sym q
