@@ -14,6 +14,13 @@ use Rattle.best_path.specs.Metric.{Metric}
 use Rattle.best_path.specs.Step.{Cell, unreached, step, best}
 use Rattle.best_path.proofs.Visiting.{length-step, step-best}
 
+-- what is stored of a new state
+abbrev pub met-of : {M : Type 0} → Cell M → M
+met-of c = c .met
+
+abbrev pub from-of : {M : Type 0} → Cell M → ℕ
+from-of c = c .from
+
 -- `value k b` is stored at k + b * half
 unfoldable pub stored : {A : Type 0} → ℕ → (ℕ → ℕ → A) → List A → ℕ → List A
 stored half value old zero = old

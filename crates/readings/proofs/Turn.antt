@@ -10,7 +10,7 @@ use Rattle.best_path.specs.declared.Wing.{Wing}
 use Rattle.best_path.specs.Post.{cellOf, Winged}
 use Rattle.best_path.specs.Step.{Cell, best}
 use Rattle.best_path.proofs.Butterfly.{crossed-bits, wing-best}
-use Rattle.best_path.proofs.Stored.{stored, stored-step}
+use Rattle.best_path.proofs.Stored.{met-of, from-of, stored, stored-step}
 use Rattle.trellis.specs.declared.ConvCode.{ConvCode}
 use Rattle.trellis.specs.Post.{Crossed}
 use Rattle.trellis.specs.State.{window, parityOf}
@@ -38,12 +38,6 @@ module _
 
 -- ---- all turns
 
-abbrev pub met-of : Cell Float → Float
-met-of c = c .met
-
-abbrev pub from-of : Cell Float → ℕ
-from-of c = c .from
-
 module _ (code : ConvCode) (pm : List Float) (a b : Float) where
   abbrev pub bestAt : ℕ → ℕ → Cell Float
   bestAt k i = best largest code (λ (s : ℕ). getD pm s nan) (brings code a b) k i
@@ -58,9 +52,9 @@ module _ (code : ConvCode) (pm : List Float) (a b : Float) where
     pub all-mets : (next : List Float) → 2 ^ code .width ≤ length next → stored half metAt next half ≡ newMets code pm a b ++ drop (2 ^ code .width) next
     all-mets next room =
         ap (λ (h : ℕ). stored h metAt next h) halved
-        ∙ stored-step largest code some (λ (s : ℕ). getD pm s nan) (brings code a b) (λ (c : Cell Float). c .met) next room
+        ∙ stored-step largest code some (λ (s : ℕ). getD pm s nan) (brings code a b) met-of next room
 
     pub all-froms : (row : List ℕ) → 2 ^ code .width ≤ length row → stored half fromAt row half ≡ newFroms code pm a b ++ drop (2 ^ code .width) row
     all-froms row room =
         ap (λ (h : ℕ). stored h fromAt row h) halved
-        ∙ stored-step largest code some (λ (s : ℕ). getD pm s nan) (brings code a b) (λ (c : Cell Float). c .from) row room
+        ∙ stored-step largest code some (λ (s : ℕ). getD pm s nan) (brings code a b) from-of row room

@@ -63,8 +63,8 @@ pub flush-by-value-determined :
     (κs : _) (given : _) (r r' : Flushed) (left left' : _) → flush-by-value.Post κs given r left → flush-by-value.Post κs given r' left' →
     (r ≡ r') × (left .1 .0 .now ≡ left' .1 .0 .now)
 flush-by-value-determined κs given r r' left left' p q = (
-    ap₂ flushed (count-told (r .answer) (r' .answer) (p .0 .answer ∙ sym (q .0 .answer))) (held-told (r .decoder) (r' .decoder) (p .0 .state ∙ sym (q .0 .state))),
-    p .1 ∙ sym (q .1),
+  ap₂ flushed (count-told (r .answer) (r' .answer) (p .0 .answer ∙ sym (q .0 .answer))) (held-told (r .decoder) (r' .decoder) (p .0 .state ∙ sym (q .0 .state))),
+  p .1 ∙ sym (q .1),
 )
 
 -- ---- in place

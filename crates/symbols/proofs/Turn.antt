@@ -10,7 +10,7 @@ use Rattle.best_path.specs.declared.Wing.{Wing}
 use Rattle.best_path.specs.Post.{cellOf, Winged}
 use Rattle.best_path.specs.Step.{Cell, best}
 use Rattle.best_path.proofs.Butterfly.{crossed-bits, wing-best}
-use Rattle.best_path.proofs.Stored.{stored, stored-step}
+use Rattle.best_path.proofs.Stored.{met-of, from-of, stored, stored-step}
 use Rattle.trellis.specs.Choice.{k5}
 use Rattle.trellis.specs.Post.{Crossed}
 use Rattle.trellis.specs.State.{window, parityOf}
@@ -18,12 +18,6 @@ use Rattle.symbols.specs.Costs.{smallest, cost, costs, phasorOf}
 use Rattle.symbols.specs.Post.{Priced, pairCost, newMets, newFroms}
 use Rattle.symbols.specs.declared.phasors.Prices.{Prices}
 use Rattle.symbols.proofs.Prices.{pair-cost, opposite-cost}
-
-abbrev pub met-of : Cell Float → Float
-met-of c = c .met
-
-abbrev pub from-of : Cell Float → ℕ
-from-of c = c .from
 
 -- what a turn stores
 module _ (pm : List Float) (re im : Float) where

@@ -48,6 +48,11 @@ pub record Crossed (code : ConvCode) (half : ℕ) (c0 c1 : List ℕ) : Type 0 wh
   pub first : (n : ℕ) → n < half → getD c0 n 0 ≡ parityOf (code .g0) (window code (2 * n) 0)
   pub second : (n : ℕ) → n < half → getD c1 n 0 ≡ parityOf (code .g1) (window code (2 * n) 0)
 
+-- A table of 32 places with nothing from n on.
+pub record Blank (n : ℕ) (table : List ℕ) : Type 0 where
+  pub sized : length table ≡ 32
+  pub rest : (k : ℕ) → n ≤ k → getD table k 0 ≡ 0
+
 -- a keep pattern as the code holds it: at least one column counts, and each row has those that count
 pub record Rows (m : KeepPattern) : Type 0 where
   pub some : 0 < m .period

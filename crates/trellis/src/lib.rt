@@ -5,7 +5,7 @@ ghost use lib.ListN.{take};
 ghost use Rattle.trellis.specs.Choice.{codeOf, patternOf, heldOf, keepOf};
 ghost use Rattle.trellis.specs.Keep.{onesOf, codedLength};
 ghost use Rattle.trellis.specs.State.{window, parityOf, nextState};
-ghost use Rattle.trellis.specs.Post.{Taken, Branched, Rows, Halved, Crossed};
+ghost use Rattle.trellis.specs.Post.{Taken, Branched, Rows, Halved, Crossed, Blank};
 
 // A code: the register's width K - 1, and the tap words over the window of K bits, whose top bit
 // is the input.
@@ -136,7 +136,8 @@ pub struct Planes {
 
 pub fn sent_by_even(code: ConvCode, half: usize) -> Planes
     requires { ⌜ Halved code half ⌝ }
-    ensures { λ r. ⌜ Crossed code half (r .c0) (r .c1) ⌝ }
+    ensures crossed { λ r. ⌜ Crossed code half (r .c0) (r .c1) ⌝ }
+    ensures rest { λ r. ⌜ Blank half (r .c0) × Blank half (r .c1) ⌝ }
 {
     let mut c0 = [0; 32];
     let mut c1 = [0; 32];

@@ -1,19 +1,18 @@
 -- `trellis::sent_by_even`. The invariant: the first n places are filled. Assumes nothing.
-use mathlib.Core.Path.{_≡_, refl}
 use Prim.Native.Nat.{ℕ, _-_, _*_, _≤_}
 use native.Mathlib.Omega.{arith}
 use borrow.Author.Needs.{needs}
-use lib.ListN.{length, length-set}
+use Rattle.trellis.specs.Post.{Blank}
 use Rattle.trellis.specs.State.{window, parityOf}
-use Rattle.trellis.proofs.Even.{Filled, filled-more, even-taken}
+use Rattle.trellis.proofs.Even.{Filled, filled-more, even-taken, all-blank, blank-behind, blank-at}
 use Rattle.trellis.proofs.sent_by_even.Statement.{statement}
 use Rattle.trellis.proofs.sent_by_even.Tie as tie
 
 abbrev Inv-loop : tie.InvT-loop
 Inv-loop code half c0₀ c1₀ n₀ c0 c1 n =
     (n ≤ half)
-    × (length c0 ≡ 32)
-    × (length c1 ≡ 32)
+    × Blank n c0
+    × Blank n c1
     × Filled (λ (k : ℕ). parityOf (code .g0) (window code (2 * k) 0)) c0 n
     × Filled (λ (k : ℕ). parityOf (code .g1) (window code (2 * k) 0)) c1 n
 
@@ -21,7 +20,7 @@ abbrev μ-loop : tie.MeasureT-loop
 μ-loop code half c0₀ c1₀ n₀ c0 c1 n = half - n
 
 loop-holds : tie.Need-loop-holds Inv-loop μ-loop
-loop-holds c = (omega arith, refl, refl, λ k h. absurd (omega arith), λ k h. absurd (omega arith))
+loop-holds c = (omega arith, all-blank, all-blank, λ k h. absurd (omega arith), λ k h. absurd (omega arith))
 
 mul-even : tie.Need-mul-even Inv-loop μ-loop
 mul-even c = omega arith
@@ -61,24 +60,26 @@ loop-again c =
     let loop = c .before .before .before .before .loop in
     let sent = c .before .before .branch-bits .ensures in (
       omega arith,
-      simp length-set (loop .inv .1),
-      simp length-set (loop .inv .2),
-      filled-more _ (loop .c0) (loop .n) _ (omega arith) (sent .first) (loop .inv .3),
-      filled-more _ (loop .c1) (loop .n) _ (omega arith) (sent .second) (loop .inv .4),
+      blank-behind (loop .c0) (loop .n) _ (loop .inv .1),
+      blank-behind (loop .c1) (loop .n) _ (loop .inv .2),
+      filled-more _ (loop .c0) (loop .n) _ (omega (arith, loop .inv .1 .sized)) (sent .first) (loop .inv .3),
+      filled-more _ (loop .c1) (loop .n) _ (omega (arith, loop .inv .2 .sized)) (sent .second) (loop .inv .4),
     )
 
 returns : tie.Need-returns Inv-loop μ-loop
 returns c =
     let loop = c .before .loop in
-    let shape = c .before .before .pre in
-    record {
-      some = shape .held .some;
-      few = shape .few;
-      halved = shape .halved;
-      ends = shape .ends;
-      first = λ n h. loop .inv .3 n (omega arith);
-      second = λ n h. loop .inv .4 n (omega arith);
-    }
+    let shape = c .before .before .pre in (
+      record {
+        some = shape .held .some;
+        few = shape .few;
+        halved = shape .halved;
+        ends = shape .ends;
+        first = λ n h. loop .inv .3 n (omega arith);
+        second = λ n h. loop .inv .4 n (omega arith);
+      },
+      (blank-at (loop .c0) (loop .n) _ (omega arith) (loop .inv .1), blank-at (loop .c1) (loop .n) _ (omega arith) (loop .inv .2)),
+    )
 
 pub sent-by-even-spec : {M : Type 1} → statement M
 sent-by-even-spec =

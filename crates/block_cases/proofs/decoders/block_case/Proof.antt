@@ -6,12 +6,13 @@ use Rattle.fields.proofs.Hex.{number-read}
 use Rattle.fields.proofs.Verdicts.{malformed-not-same}
 use Prim.Native.Nat.{ℕ}
 use Rattle.block_cases.proofs.Stored.{head-read, behind-head}
+use lib.Dec.{lit≤}
 use borrow.Author.Needs.{needs}
 use Rattle.block_cases.proofs.decoders.block_case.Statement.{statement}
 use Rattle.block_cases.proofs.decoders.block_case.Tie as tie
 
 head-of-requires : tie.Need-head-of-requires
-head-of-requires c κs = search needs
+head-of-requires c κs = tt
 
 enum-known-head : tie.Need-enum-known-head
 enum-known-head c = search needs
@@ -23,19 +24,19 @@ returns : tie.Need-returns
 returns c = λ e. absurd (malformed-not-same e)
 
 rest-requires : tie.Need-rest-requires
-rest-requires c κs = search needs
+rest-requires c κs = tt
 
 rest-requires-2 : tie.Need-rest-requires-2
-rest-requires-2 c κs = search needs
+rest-requires-2 c κs = tt
 
 rest-requires-3 : tie.Need-rest-requires-3
-rest-requires-3 c κs = search needs
+rest-requires-3 c κs = tt
 
 first-requires : tie.Need-first-requires
-first-requires c κs = search needs
+first-requires c κs = tt
 
 number-requires : tie.Need-number-requires
-number-requires c κs = search needs
+number-requires c κs = lit≤ tt
 
 enum-known-info : tie.Need-enum-known-info
 enum-known-info c = search needs
@@ -47,31 +48,31 @@ returns-2 : tie.Need-returns-2
 returns-2 c = λ e. absurd (malformed-not-same e)
 
 rest-requires-4 : tie.Need-rest-requires-4
-rest-requires-4 c κs = search needs
+rest-requires-4 c κs = tt
 
 first-requires-2 : tie.Need-first-requires-2
-first-requires-2 c κs = search needs
+first-requires-2 c κs = tt
 
 count-requires : tie.Need-count-requires
-count-requires c κs = search needs
+count-requires c κs = tt
 
 rest-requires-5 : tie.Need-rest-requires-5
-rest-requires-5 c κs = search needs
+rest-requires-5 c κs = tt
 
 first-requires-3 : tie.Need-first-requires-3
-first-requires-3 c κs = search needs
+first-requires-3 c κs = tt
 
 count-requires-2 : tie.Need-count-requires-2
-count-requires-2 c κs = search needs
+count-requires-2 c κs = tt
 
 rest-requires-6 : tie.Need-rest-requires-6
-rest-requires-6 c κs = search needs
+rest-requires-6 c κs = tt
 
 rest-requires-7 : tie.Need-rest-requires-7
-rest-requires-7 c κs = search needs
+rest-requires-7 c κs = tt
 
 count-requires-3 : tie.Need-count-requires-3
-count-requires-3 c κs = search needs
+count-requires-3 c κs = tt
 
 returns-3 : tie.Need-returns-3
 returns-3 c = λ e. absurd (malformed-not-same e)
@@ -122,7 +123,7 @@ part-rows-end : tie.Need-part-rows-end
 part-rows-end c = search needs
 
 block-lists-requires : tie.Need-block-lists-requires
-block-lists-requires c κs = search needs
+block-lists-requires c κs = tt
 
 same-length : tie.Need-same-length
 same-length c = search needs

@@ -1,5 +1,5 @@
 -- `block_cases::decoders::block_lists`: what the call leaves is compared with what the lists spell. Assumes nothing.
-use mathlib.Core.Path.{sym, ap, _∙_}
+use mathlib.Core.Path.{_≡_, sym, ap, _∙_}
 use lib.ListN.{length}
 use borrow.Author.Tests.{not-false}
 use Rattle.fields.specs.Spelling.{bytesSpelt}
@@ -8,12 +8,13 @@ use lib.Ieee.{Float}
 use Rattle.readings.specs.Said.{decodeSaid}
 use Rattle.refusal.specs.Answer.{Said, scoreBits, doorNumber}
 use Rattle.block_cases.proofs.Stored.{marked-said, left-in-marked}
+use lib.Dec.{lit≤}
 use borrow.Author.Needs.{needs}
 use Rattle.block_cases.proofs.decoders.block_lists.Statement.{statement}
 use Rattle.block_cases.proofs.decoders.block_lists.Tie as tie
 
 fill-three-requires : tie.Need-fill-three-requires
-fill-three-requires c κs = search needs
+fill-three-requires c κs = tt
 
 same-length : tie.Need-same-length
 same-length c = search needs
@@ -28,16 +29,16 @@ returns : tie.Need-returns
 returns c = λ e. absurd (malformed-not-same e)
 
 untouch-requires : tie.Need-untouch-requires
-untouch-requires c κs = search needs
+untouch-requires c κs = tt
 
 untouch-requires-2 : tie.Need-untouch-requires-2
-untouch-requires-2 c κs = search needs
+untouch-requires-2 c κs = tt
 
 viterbi-decode-bytes-requires : tie.Need-viterbi-decode-bytes-requires
-viterbi-decode-bytes-requires c κs = search needs
+viterbi-decode-bytes-requires c κs = tt
 
 same-requires : tie.Need-same-requires
-same-requires c κs = search needs
+same-requires c κs = tt
 
 same-length-4 : tie.Need-same-length-4
 same-length-4 c = search needs
@@ -58,10 +59,10 @@ returns-2 : tie.Need-returns-2
 returns-2 c = λ e. absurd (differs-not-same e)
 
 word-number-requires : tie.Need-word-number-requires
-word-number-requires c κs = search needs
+word-number-requires c κs = tt
 
 compared-requires : tie.Need-compared-requires
-compared-requires c κs = search needs
+compared-requires c κs = tt
 
 same-length-9 : tie.Need-same-length-9
 same-length-9 c = search needs
@@ -82,7 +83,8 @@ returns-3 : tie.Need-returns-3
 returns-3 c = λ same.
     let call = c .before .before .before .before .before .before .before .before .before .before .before .before .viterbi-decode-bytes .ensures in
     let agreed = c .compared .ensures .0 same in
-    let rows-agreed = c .before .before .before .before .before .same .ensures .0 (not-false _ (c .before .before .before .before .if2 .left)) in
+    let rows-agreed : c .before .before .before .before .before .before .before .before .before .before .before .before .viterbi-decode-bytes .last .1 .1 .1 .1 .1 .0 ≡ c .before .before .before .before .before .before .before .before .before .before .before .before .before .before .before .before .before .before .before .before .before .before .before .before .before .before .before .before .before .before .before .fill-three .last .1 .1 .1 .0 =
+    c .before .before .before .before .before .same .ensures .0 (not-false _ (c .before .before .before .before .if2 .left)) in
     let lists = c .before .before .before .before .before .before .before .before .before .before .before .before .before .before .before .before .before .before .before .before .before .before .before .before .before .before .before .before .before .before .before .fill-three .ensures (not-false _ (c .before .before .before .before .before .before .before .before .before .before .before .before .before .before .before .before .before .before .before .before .before .before .before .before .if1 .left)) in
     let room = length (c .before .before .before .before .before .before .before .before .before .before .before .before .before .before .before .before .before .before .before .before .before .before .before .before .before .before .before .before .before .before .before .before .before .before .before .before .before .before .before .before .before .args .out .now) in
     let scratch = length (c .before .before .before .before .before .before .before .before .before .before .before .before .before .before .before .before .before .before .before .before .before .before .before .before .before .before .before .before .before .before .before .before .before .before .before .before .before .before .before .before .before .args .rows .now) in

@@ -5,15 +5,16 @@ use Rattle.fields.specs.Spelling.{firstField, laterFields, numberSpelt}
 use Rattle.fields.proofs.Hex.{number-read}
 use Rattle.fields.proofs.Verdicts.{malformed-not-same}
 use Prim.Native.Nat.{ℕ}
+use lib.Dec.{lit≤}
 use borrow.Author.Needs.{needs}
 use Rattle.block_cases.proofs.decoders.symbols_case.Statement.{statement}
 use Rattle.block_cases.proofs.decoders.symbols_case.Tie as tie
 
 first-requires : tie.Need-first-requires
-first-requires c κs = search needs
+first-requires c κs = tt
 
 number-requires : tie.Need-number-requires
-number-requires c κs = search needs
+number-requires c κs = lit≤ tt
 
 enum-known-answer : tie.Need-enum-known-answer
 enum-known-answer c = search needs
@@ -25,31 +26,31 @@ returns : tie.Need-returns
 returns c = λ e. absurd (malformed-not-same e)
 
 rest-requires : tie.Need-rest-requires
-rest-requires c κs = search needs
+rest-requires c κs = tt
 
 first-requires-2 : tie.Need-first-requires-2
-first-requires-2 c κs = search needs
+first-requires-2 c κs = tt
 
 count-requires : tie.Need-count-requires
-count-requires c κs = search needs
+count-requires c κs = tt
 
 rest-requires-2 : tie.Need-rest-requires-2
-rest-requires-2 c κs = search needs
+rest-requires-2 c κs = tt
 
 first-requires-3 : tie.Need-first-requires-3
-first-requires-3 c κs = search needs
+first-requires-3 c κs = tt
 
 count-requires-2 : tie.Need-count-requires-2
-count-requires-2 c κs = search needs
+count-requires-2 c κs = tt
 
 rest-requires-3 : tie.Need-rest-requires-3
-rest-requires-3 c κs = search needs
+rest-requires-3 c κs = tt
 
 rest-requires-4 : tie.Need-rest-requires-4
-rest-requires-4 c κs = search needs
+rest-requires-4 c κs = tt
 
 count-requires-3 : tie.Need-count-requires-3
-count-requires-3 c κs = search needs
+count-requires-3 c κs = tt
 
 returns-2 : tie.Need-returns-2
 returns-2 c = λ e. absurd (malformed-not-same e)
@@ -100,7 +101,7 @@ part-rows-end : tie.Need-part-rows-end
 part-rows-end c = search needs
 
 symbols-lists-requires : tie.Need-symbols-lists-requires
-symbols-lists-requires c κs = search needs
+symbols-lists-requires c κs = tt
 
 same-length : tie.Need-same-length
 same-length c = search needs

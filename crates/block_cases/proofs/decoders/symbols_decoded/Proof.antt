@@ -7,7 +7,7 @@ use Rattle.block_cases.proofs.decoders.symbols_decoded.Statement.{state
 use Rattle.block_cases.proofs.decoders.symbols_decoded.Tie as tie
 
 viterbi-decode-hard-requires : tie.Need-viterbi-decode-hard-requires
-viterbi-decode-hard-requires c κs = search needs
+viterbi-decode-hard-requires c κs = tt
 
 same-length : tie.Need-same-length
 same-length c = search needs
@@ -24,7 +24,7 @@ slice-aggregate-from-all-bytes : tie.Need-slice-aggregate-from-all-bytes
 slice-aggregate-from-all-bytes c = search needs
 
 from-all-bytes-requires : tie.Need-from-all-bytes-requires
-from-all-bytes-requires c κs = search needs
+from-all-bytes-requires c κs = tt
 
 array-share-prefix-soft : tie.Need-array-share-prefix-soft
 array-share-prefix-soft c =
@@ -37,7 +37,7 @@ slice-aggregate-viterbi-decode c =
     sym (length-take-le _ _ (components-within (c .before .before .before .before .before .before .before .before .args .given .now) _ _ (filled .0) (filled .1)))
 
 viterbi-decode-requires : tie.Need-viterbi-decode-requires
-viterbi-decode-requires c κs = search needs
+viterbi-decode-requires c κs = tt
 
 same-length-3 : tie.Need-same-length-3
 same-length-3 c = search needs

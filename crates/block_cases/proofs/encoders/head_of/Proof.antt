@@ -2,15 +2,16 @@
 use mathlib.Core.Path.{sym, ap, _∙_}
 use Rattle.fields.specs.Spelling.{firstField, laterFields}
 use Rattle.fields.proofs.Hex.{number-read, byte-spelt}
+use lib.Dec.{lit≤}
 use borrow.Author.Needs.{needs}
 use Rattle.block_cases.proofs.encoders.head_of.Statement.{statement}
 use Rattle.block_cases.proofs.encoders.head_of.Tie as tie
 
 first-requires : tie.Need-first-requires
-first-requires c κs = search needs
+first-requires c κs = tt
 
 number-requires : tie.Need-number-requires
-number-requires c κs = search needs
+number-requires c κs = lit≤ tt
 
 enum-known-code : tie.Need-enum-known-code
 enum-known-code c = search needs
@@ -22,13 +23,13 @@ returns : tie.Need-returns
 returns c = search needs
 
 rest-requires : tie.Need-rest-requires
-rest-requires c κs = search needs
+rest-requires c κs = tt
 
 first-requires-2 : tie.Need-first-requires-2
-first-requires-2 c κs = search needs
+first-requires-2 c κs = tt
 
 number-requires-2 : tie.Need-number-requires-2
-number-requires-2 c κs = search needs
+number-requires-2 c κs = lit≤ tt
 
 enum-known-rate : tie.Need-enum-known-rate
 enum-known-rate c = search needs
@@ -40,13 +41,13 @@ returns-2 : tie.Need-returns-2
 returns-2 c = search needs
 
 rest-requires-2 : tie.Need-rest-requires-2
-rest-requires-2 c κs = search needs
+rest-requires-2 c κs = tt
 
 first-requires-3 : tie.Need-first-requires-3
-first-requires-3 c κs = search needs
+first-requires-3 c κs = tt
 
 number-requires-3 : tie.Need-number-requires-3
-number-requires-3 c κs = search needs
+number-requires-3 c κs = lit≤ tt
 
 enum-known-answer : tie.Need-enum-known-answer
 enum-known-answer c = search needs
@@ -58,10 +59,10 @@ returns-3 : tie.Need-returns-3
 returns-3 c = search needs
 
 low-requires : tie.Need-low-requires
-low-requires c κs = search needs
+low-requires c κs = tt
 
 low-requires-2 : tie.Need-low-requires-2
-low-requires-2 c κs = search needs
+low-requires-2 c κs = tt
 
 returns-4 : tie.Need-returns-4
 returns-4 c =

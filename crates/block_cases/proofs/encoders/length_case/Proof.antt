@@ -5,12 +5,13 @@ use Rattle.fields.proofs.Hex.{number-read}
 use Rattle.fields.proofs.Verdicts.{malformed-not-same}
 use Rattle.refusal.specs.Answer.{doorNumber}
 use Rattle.block_cases.proofs.Stored.{head-read, behind-head}
+use lib.Dec.{lit≤}
 use borrow.Author.Needs.{needs}
 use Rattle.block_cases.proofs.encoders.length_case.Statement.{statement}
 use Rattle.block_cases.proofs.encoders.length_case.Tie as tie
 
 head-of-requires : tie.Need-head-of-requires
-head-of-requires c κs = search needs
+head-of-requires c κs = tt
 
 enum-known-head : tie.Need-enum-known-head
 enum-known-head c = search needs
@@ -22,16 +23,16 @@ returns : tie.Need-returns
 returns c = λ e. absurd (malformed-not-same e)
 
 rest-requires : tie.Need-rest-requires
-rest-requires c κs = search needs
+rest-requires c κs = tt
 
 rest-requires-2 : tie.Need-rest-requires-2
-rest-requires-2 c κs = search needs
+rest-requires-2 c κs = tt
 
 rest-requires-3 : tie.Need-rest-requires-3
-rest-requires-3 c κs = search needs
+rest-requires-3 c κs = tt
 
 number-requires : tie.Need-number-requires
-number-requires c κs = search needs
+number-requires c κs = lit≤ tt
 
 enum-known-info : tie.Need-enum-known-info
 enum-known-info c = search needs
@@ -43,10 +44,10 @@ returns-2 : tie.Need-returns-2
 returns-2 c = λ e. absurd (malformed-not-same e)
 
 punctured-coded-len-with-requires : tie.Need-punctured-coded-len-with-requires
-punctured-coded-len-with-requires c κs = search needs
+punctured-coded-len-with-requires c κs = tt
 
 count-number-requires : tie.Need-count-number-requires
-count-number-requires c κs = search needs
+count-number-requires c κs = tt
 
 slice-aggregate-compared : tie.Need-slice-aggregate-compared
 slice-aggregate-compared c = search needs
@@ -55,7 +56,7 @@ slice-aggregate-compared-2 : tie.Need-slice-aggregate-compared-2
 slice-aggregate-compared-2 c = search needs
 
 compared-requires : tie.Need-compared-requires
-compared-requires c κs = search needs
+compared-requires c κs = tt
 
 returns-3 : tie.Need-returns-3
 returns-3 c = λ same.

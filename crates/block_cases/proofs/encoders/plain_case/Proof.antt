@@ -3,15 +3,16 @@ use mathlib.Core.Path.{sym, ap, _∙_}
 use Rattle.fields.specs.Spelling.{firstField, laterFields, numberSpelt}
 use Rattle.fields.proofs.Hex.{number-read}
 use Rattle.fields.proofs.Verdicts.{malformed-not-same}
+use lib.Dec.{lit≤}
 use borrow.Author.Needs.{needs}
 use Rattle.block_cases.proofs.encoders.plain_case.Statement.{statement}
 use Rattle.block_cases.proofs.encoders.plain_case.Tie as tie
 
 first-requires : tie.Need-first-requires
-first-requires c κs = search needs
+first-requires c κs = tt
 
 number-requires : tie.Need-number-requires
-number-requires c κs = search needs
+number-requires c κs = lit≤ tt
 
 enum-known-answer : tie.Need-enum-known-answer
 enum-known-answer c = search needs
@@ -23,19 +24,19 @@ returns : tie.Need-returns
 returns c = λ e. absurd (malformed-not-same e)
 
 rest-requires : tie.Need-rest-requires
-rest-requires c κs = search needs
+rest-requires c κs = tt
 
 first-requires-2 : tie.Need-first-requires-2
-first-requires-2 c κs = search needs
+first-requires-2 c κs = tt
 
 count-requires : tie.Need-count-requires
-count-requires c κs = search needs
+count-requires c κs = tt
 
 rest-requires-2 : tie.Need-rest-requires-2
-rest-requires-2 c κs = search needs
+rest-requires-2 c κs = tt
 
 count-requires-2 : tie.Need-count-requires-2
-count-requires-2 c κs = search needs
+count-requires-2 c κs = tt
 
 returns-2 : tie.Need-returns-2
 returns-2 c = λ e. absurd (malformed-not-same e)
@@ -68,7 +69,7 @@ part-plain-run-end-3 : tie.Need-part-plain-run-end-3
 part-plain-run-end-3 c = search needs
 
 plain-run-requires : tie.Need-plain-run-requires
-plain-run-requires c κs = search needs
+plain-run-requires c κs = tt
 
 same-length : tie.Need-same-length
 same-length c = search needs

@@ -6,13 +6,14 @@ use Rattle.fields.specs.Spelling.{bytesSpelt}
 use Rattle.fields.proofs.Verdicts.{malformed-not-same}
 use Rattle.refusal.specs.Answer.{doorNumber}
 use Rattle.block_cases.proofs.Stored.{marked-length, left-in-marked}
+use lib.Dec.{lit≤}
 use borrow.Author.Needs.{needs}
 use borrow.Author.Tests.{not-false}
 use Rattle.block_cases.proofs.encoders.plain_run.Statement.{statement}
 use Rattle.block_cases.proofs.encoders.plain_run.Tie as tie
 
 fill-two-requires : tie.Need-fill-two-requires
-fill-two-requires c κs = search needs
+fill-two-requires c κs = tt
 
 same-length : tie.Need-same-length
 same-length c = search needs
@@ -24,16 +25,16 @@ returns : tie.Need-returns
 returns c = λ e. absurd (malformed-not-same e)
 
 untouch-requires : tie.Need-untouch-requires
-untouch-requires c κs = search needs
+untouch-requires c κs = tt
 
 conv-encode-requires : tie.Need-conv-encode-requires
-conv-encode-requires c κs = search needs
+conv-encode-requires c κs = tt
 
 count-number-requires : tie.Need-count-number-requires
-count-number-requires c κs = search needs
+count-number-requires c κs = tt
 
 compared-requires : tie.Need-compared-requires
-compared-requires c κs = search needs
+compared-requires c κs = tt
 
 same-length-3 : tie.Need-same-length-3
 same-length-3 c = search needs

@@ -8,7 +8,7 @@ use Rattle.block_cases.proofs.encoders.punctured_case.Statement.{statem
 use Rattle.block_cases.proofs.encoders.punctured_case.Tie as tie
 
 head-of-requires : tie.Need-head-of-requires
-head-of-requires c κs = search needs
+head-of-requires c κs = tt
 
 enum-known-head : tie.Need-enum-known-head
 enum-known-head c = search needs
@@ -20,25 +20,25 @@ returns : tie.Need-returns
 returns c = λ e. absurd (malformed-not-same e)
 
 rest-requires : tie.Need-rest-requires
-rest-requires c κs = search needs
+rest-requires c κs = tt
 
 rest-requires-2 : tie.Need-rest-requires-2
-rest-requires-2 c κs = search needs
+rest-requires-2 c κs = tt
 
 rest-requires-3 : tie.Need-rest-requires-3
-rest-requires-3 c κs = search needs
+rest-requires-3 c κs = tt
 
 first-requires : tie.Need-first-requires
-first-requires c κs = search needs
+first-requires c κs = tt
 
 count-requires : tie.Need-count-requires
-count-requires c κs = search needs
+count-requires c κs = tt
 
 rest-requires-4 : tie.Need-rest-requires-4
-rest-requires-4 c κs = search needs
+rest-requires-4 c κs = tt
 
 count-requires-2 : tie.Need-count-requires-2
-count-requires-2 c κs = search needs
+count-requires-2 c κs = tt
 
 returns-2 : tie.Need-returns-2
 returns-2 c = λ e. absurd (malformed-not-same e)
@@ -71,7 +71,7 @@ part-punctured-run-end-3 : tie.Need-part-punctured-run-end-3
 part-punctured-run-end-3 c = search needs
 
 punctured-run-requires : tie.Need-punctured-run-requires
-punctured-run-requires c κs = search needs
+punctured-run-requires c κs = tt
 
 same-length : tie.Need-same-length
 same-length c = search needs

@@ -133,7 +133,7 @@ part-step-end : tie.Need-part-step-end Inv-loop μ-loop
 part-step-end c = omega arith
 
 step-requires : tie.Need-step-requires Inv-loop μ-loop
-step-requires c κs = (c .before .before .before .before .before .before .before .before .before .before .before .before .before .before .before .sent-by-even .ensures, simp (length-take, length-drop) (omega (arith, fits (c .before .before .before .before .before .before .before .before .before .before) (c .before .before .before .before .before .before .before .before .before .loop-test .taken))))
+step-requires c κs = (c .before .before .before .before .before .before .before .before .before .before .before .before .before .before .before .sent-by-even .ensures .0, simp (length-take, length-drop) (omega (arith, fits (c .before .before .before .before .before .before .before .before .before .before) (c .before .before .before .before .before .before .before .before .before .loop-test .taken))))
 
 add-to : tie.Need-add-to Inv-loop μ-loop
 add-to c = omega (arith, ends (c .before .before .before .before .before .before .before .before .before .before .before .before .before) (c .before .before .before .before .before .before .before .before .before .before .before .before .loop-test .taken))
@@ -142,7 +142,7 @@ next-column-requires : tie.Need-next-column-requires Inv-loop μ-loop
 next-column-requires c κs = below (c .before .before .before .before .before .before .before .before .before .before .before .before .before)
 
 add-t : tie.Need-add-t Inv-loop μ-loop
-add-t c = omega arith
+add-t c = omega (arith, c .before .before .before .before .before .before .before .before .before .before .before .before .before .loop-test .taken, c .before .before .before .before .before .before .before .before .before .before .before .before .before .before .before .before .before .before .before .before .before .before .pre .1 .1 .0)
 
 loop-less : tie.Need-loop-less Inv-loop μ-loop
 loop-less c = omega arith

@@ -5,11 +5,11 @@ use native.Mathlib.Omega.{arith}
 use borrow.Author.Needs.{needs}
 use lib.Ieee.{Float}
 use lib.ListN.{length, length-set}
-use Rattle.best_path.proofs.Stored.{stored, stored-none, stored-turn}
+use Rattle.best_path.proofs.Stored.{met-of, from-of, stored, stored-none, stored-turn}
 use Rattle.trellis.specs.declared.ConvCode.{ConvCode}
 use Rattle.trellis.specs.Post.{Crossed}
 use Rattle.trellis.proofs.States.{states-two-halves}
-use Rattle.readings.proofs.Turn.{metAt, fromAt, met-of, from-of, turned, all-mets, all-froms}
+use Rattle.readings.proofs.Turn.{metAt, fromAt, turned, all-mets, all-froms}
 use Rattle.readings.proofs.forward_pass.step.Statement.{statement}
 use Rattle.readings.proofs.forward_pass.step.Tie as tie
 

@@ -4,9 +4,9 @@ use Prim.Native.Nat.{_-_, _*_, _≤_, _<_}
 use native.Mathlib.Omega.{arith}
 use borrow.Author.Needs.{needs}
 use lib.ListN.{length, length-set}
-use Rattle.best_path.proofs.Stored.{stored, stored-none, stored-turn}
+use Rattle.best_path.proofs.Stored.{met-of, from-of, stored, stored-none, stored-turn}
 use Rattle.symbols.specs.Post.{Priced}
-use Rattle.symbols.proofs.Turn.{metAt, fromAt, met-of, from-of, turned, all-mets, all-froms}
+use Rattle.symbols.proofs.Turn.{metAt, fromAt, turned, all-mets, all-froms}
 use Rattle.symbols.proofs.forward_pass.step.Statement.{statement}
 use Rattle.symbols.proofs.forward_pass.step.Tie as tie
 
