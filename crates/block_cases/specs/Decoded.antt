@@ -2,7 +2,7 @@
 use mathlib.Core.Bool.{Bool, true, false}
 use mathlib.Core.List.{List, [], _∷_}
 use mathlib.Core.Path.{_≡_}
-use Prim.Native.Nat.{ℕ}
+use Prim.Native.Nat.{ℕ, _^_, _<_}
 use lib.Ieee.{Float}
 use lib.ListN.{length, take}
 use Rattle.f32s.specs.Single.{allOfBytes}
@@ -17,7 +17,7 @@ use Rattle.symbols.specs.Said.{symbolsIn, softSaid, hardSaid, phasorsOf}
 use Rattle.trellis.specs.Choice.{codeOf, patternOf, k5}
 use Rattle.trellis.specs.Codeword.{stepsOf}
 use Rattle.block_cases.specs.declared.encoders.Head.{Head}
-use Rattle.block_cases.specs.Encoded.{unwritten}
+use Rattle.block_cases.specs.Encoded.{unwritten, Bytes}
 
 -- ---- readings
 
@@ -36,7 +36,9 @@ module _ (code rate info : ℕ) (bytes : List ℕ) (room scratch : ℕ) where
 pub record Block (line : List ℕ) : Type 0 where
   pub code : ℕ
   pub rate : ℕ
+  pub numbers : Bytes code rate
   pub info : ℕ
+  pub short : info < 16 ^ 16
   pub bytes : List ℕ
   pub room : ℕ
   pub scratch : ℕ

@@ -1,7 +1,7 @@
 -- Stored lines of the encoders, without their letter, that the definitions bear out. Definitions only.
 use mathlib.Core.List.{List, [], _∷_}
 use mathlib.Core.Path.{_≡_}
-use Prim.Native.Nat.{ℕ}
+use Prim.Native.Nat.{ℕ, _^_, _<_}
 use lib.ListN.{length, replicate}
 use Rattle.encoder.specs.Encode.{lengthSaid, encodeSaid, encodeWord, plainSaid, plainWord}
 use Rattle.fields.specs.Spelling.{firstField, laterFields, Fields, numberSpelt, bytesSpelt}
@@ -15,10 +15,16 @@ use Rattle.block_cases.specs.declared.encoders.Head.{Head}
 abbrev pub unwritten : ℕ → List ℕ
 unwritten room = replicate room 165
 
+-- a code number and a rate number that two digits each can spell
+pub record Bytes (code rate : ℕ) : Type 0 where
+  pub of-code : code < 16 ^ 2
+  pub of-rate : rate < 16 ^ 2
+
 -- `e CC RR ANSWER INFO OUT`
 pub record Punctured (line : List ℕ) : Type 0 where
   pub code : ℕ
   pub rate : ℕ
+  pub numbers : Bytes code rate
   pub info : List ℕ
   pub room : ℕ
   pub spelt :
@@ -42,7 +48,9 @@ pub record Plain (line : List ℕ) : Type 0 where
 pub record Length (line : List ℕ) : Type 0 where
   pub code : ℕ
   pub rate : ℕ
+  pub numbers : Bytes code rate
   pub info : ℕ
+  pub short : info < 16 ^ 16
   pub spelt :
       Fields line (numberSpelt 2 code ∷ (numberSpelt 2 rate ∷ (numberSpelt 16 (doorNumber (lengthSaid code rate info)) ∷ (numberSpelt 16 info ∷ []))))
 
@@ -53,6 +61,7 @@ pub record Heads (line : List ℕ) (head : Head) : Type 0 where
   pub code : firstField line ≡ numberSpelt 2 (head .code)
   pub rate : firstField (laterFields line) ≡ numberSpelt 2 (head .rate)
   pub answer : firstField (laterFields (laterFields line)) ≡ numberSpelt 16 (head .answer)
+  pub numbers : Bytes (head .code) (head .rate)
 
 abbrev pub Begins : List ℕ → Begun → Type 0
 Begins line (With head) = Heads line head

@@ -117,8 +117,8 @@ value-all i width v same e = rw (← same) e
 pub number-read : (field : List ℕ) (width : ℕ) (value : Value) (v : ℕ) → Spells field width value → value ≡ Is v → (field ≡ numberSpelt width v) × (v < 16 ^ width)
 number-read field width value v spelt e = subst (Spells field width) e spelt
 
--- a number of two digits as a byte is spelt as before
-pub byte-spelt : (field : List ℕ) (v b : ℕ) → (field ≡ numberSpelt 2 v) × (v < 16 ^ 2) → b ≡ v % 256 → field ≡ numberSpelt 2 b
+-- a number of two digits as a byte is the same
+pub byte-spelt : (field : List ℕ) (v b : ℕ) → (field ≡ numberSpelt 2 v) × (v < 16 ^ 2) → b ≡ v % 256 → (field ≡ numberSpelt 2 b) × (b < 16 ^ 2)
 byte-spelt field v b spelt e =
     let same : v ≡ b = omega (arith, spelt .1) in
-    spelt .0 ∙ ap (numberSpelt 2) same
+    (spelt .0 ∙ ap (numberSpelt 2) same, subst (λ (n : ℕ). n < 16 ^ 2) same (spelt .1))

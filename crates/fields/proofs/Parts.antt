@@ -44,7 +44,7 @@ fields-from (c ∷ cs) (suc r) s =
     ∙ ap (λ (b : Bool). cond b cs (laterFields cs)) (sym (ne-eqb _ _ (s .before 0 (omega arith))))
 
 -- all of a line from k on
-from-on : (line : List ℕ) (k : ℕ) → take (length line - k) (drop k line) ≡ drop k line
+pub from-on : (line : List ℕ) (k : ℕ) → take (length line - k) (drop k line) ≡ drop k line
 from-on line k =
     let long : length (drop k line) ≤ length line - k = simp length-drop (omega arith) in
     take-all (length line - k) (drop k line) long

@@ -1,6 +1,6 @@
 -- Stored lines of the Varicode writer and reader, without their letter, that the definitions bear out. Definitions only.
 use mathlib.Core.List.{List, [], _∷_, _++_}
-use Prim.Native.Nat.{ℕ}
+use Prim.Native.Nat.{ℕ, _^_, _<_}
 use Rattle.fields.specs.Spelling.{Fields, numberSpelt}
 use Rattle.refusal.specs.Answer.{Said, accepted, refused}
 use Rattle.varicode.specs.declared.Taken.{Taken}
@@ -54,6 +54,19 @@ stepSpelt s takesBit = 116 ∷ takenSpelt 1 (taken bitRoom (s .writer .pending))
 stepSpelt s (feeds b) = putSpelt 105 2 b (bitSaid (s .reader) b)
 stepSpelt s takesChar = 112 ∷ takenSpelt 2 (taken charRoom (s .reader .chars))
 
+-- a step's number has no more digits than are spelt: digits alone would say it only up to a multiple
+abbrev pub Sayable : Act → Type 0
+Sayable (puts (opening n)) = n < 16 ^ 16
+Sayable (puts (closing n)) = n < 16 ^ 16
+Sayable (puts (byte b)) = b < 16 ^ 2
+Sayable takesBit = Unit {0}
+Sayable (feeds b) = b < 16 ^ 2
+Sayable takesChar = Unit {0}
+
+abbrev pub AllSayable : List Act → Type 0
+AllSayable [] = Unit {0}
+AllSayable (act ∷ later) = Sayable act × AllSayable later
+
 -- steps one after the other
 unfoldable pub stepsSpelt : Both → List Act → List (List ℕ)
 stepsSpelt s [] = []
@@ -63,4 +76,5 @@ stepsSpelt s (act ∷ later) = stepSpelt s act ∷ stepsSpelt (leftBy s act) lat
 pub record Steps (line : List ℕ) : Type 0 where
   pub act : Act
   pub later : List Act
+  pub sayable : AllSayable (act ∷ later)
   pub spelt : Fields line (stepsSpelt fresh (act ∷ later))

@@ -138,13 +138,15 @@ returns-4 : tie.Need-returns-4
 returns-4 c = λ same.
     let head = head-read _ _ _ (c .before .before .before .before .before .before .before .before .before .before .before .before .before .before .before .before .before .before .before .before .before .before .before .before .before .before .before .before .before .before .before .before .before .before .before .before .before .before .head-of .ensures) (c .before .before .before .before .before .before .before .before .before .before .before .before .before .before .before .before .before .before .before .before .before .before .before .before .before .before .before .before .before .before .before .before .before .before .before .before .head .given .1) in
     let counted = behind-head _ _ _ _ (c .before .before .before .before .before .before .before .before .before .before .before .before .before .before .before .before .before .before .before .before .before .before .before .before .before .before .before .before .before .before .before .before .before .before .rest .ensures) (c .before .before .before .before .before .before .before .before .before .before .before .before .before .before .before .before .before .before .before .before .before .before .before .before .before .before .before .before .before .before .before .before .before .rest2 .ensures) (c .before .before .before .before .before .before .before .before .before .before .before .before .before .before .before .before .before .before .before .before .before .before .before .before .before .before .before .before .before .before .before .before .rest3 .ensures) in
-    let info = number-read _ _ _ _ (c .before .before .before .before .before .before .before .before .before .before .before .before .before .before .before .before .before .before .before .before .before .before .before .before .before .before .before .before .before .before .number .ensures) (c .before .before .before .before .before .before .before .before .before .before .before .before .before .before .before .before .before .before .before .before .before .before .before .before .before .before .before .before .info .given .1) .0 in
+    let info = number-read _ _ _ _ (c .before .before .before .before .before .before .before .before .before .before .before .before .before .before .before .before .before .before .before .before .before .before .before .before .before .before .before .before .before .before .number .ensures) (c .before .before .before .before .before .before .before .before .before .before .before .before .before .before .before .before .before .before .before .before .before .before .before .before .before .before .before .before .info .given .1) in
     let behind = c .before .before .before .before .before .before .before .before .before .before .before .before .before .before .before .before .before .before .before .before .before .before .before .before .before .before .rest4 .ensures ∙ ap laterFields counted in
     let lists = c .before .before .before .before .before .before .before .before .block-lists .ensures same in
     record {
       code = _;
       rate = _;
+      numbers = head .numbers;
       info = _;
+      short = info .1;
       bytes = lists .bytes;
       room = lists .room;
       scratch = lists .scratch;
@@ -155,7 +157,7 @@ returns-4 c = λ same.
           (
             head .answer ∙ ap (numberSpelt 16) (lists .answered),
             (
-              sym (ap firstField counted) ∙ sym (c .before .before .before .before .before .before .before .before .before .before .before .before .before .before .before .before .before .before .before .before .before .before .before .before .before .before .before .before .before .before .before .first .ensures) ∙ info,
+              sym (ap firstField counted) ∙ sym (c .before .before .before .before .before .before .before .before .before .before .before .before .before .before .before .before .before .before .before .before .before .before .before .before .before .before .before .before .before .before .before .first .ensures) ∙ info .0,
               (
                 sym (ap firstField behind) ∙ lists .spelt .0,
                 (

@@ -71,10 +71,13 @@ returns-4 c =
     let answer-number = number-read _ _ _ _ (c .before .before .before .before .before .number3 .ensures) (c .before .before .before .answer .given .1) in
     let after-code = c .before .before .before .before .before .before .before .before .before .before .before .before .before .rest .ensures in
     let after-rate = c .before .before .before .before .before .before .before .rest2 .ensures ∙ ap laterFields after-code in
+    let code = byte-spelt _ _ _ code-number (c .before .low .ensures) in
+    let rate = byte-spelt _ _ _ rate-number (c .low2 .ensures) in
     record {
-      code = sym (c .before .before .before .before .before .before .before .before .before .before .before .before .before .before .before .before .before .before .first .ensures) ∙ byte-spelt _ _ _ code-number (c .before .low .ensures);
-      rate = sym (c .before .before .before .before .before .before .before .before .before .before .before .before .first2 .ensures ∙ ap firstField after-code) ∙ byte-spelt _ _ _ rate-number (c .low2 .ensures);
+      code = sym (c .before .before .before .before .before .before .before .before .before .before .before .before .before .before .before .before .before .before .first .ensures) ∙ code .0;
+      rate = sym (c .before .before .before .before .before .before .before .before .before .before .before .before .first2 .ensures ∙ ap firstField after-code) ∙ rate .0;
       answer = sym (c .before .before .before .before .before .before .first3 .ensures ∙ ap firstField after-rate) ∙ answer-number .0;
+      numbers = record { of-code = code .1; of-rate = rate .1 };
     }
 
 pub head-of-spec : {M : Type 1} → statement M

@@ -63,11 +63,14 @@ returns-3 c = λ same.
     let head = head-read _ _ _ (c .before .before .before .before .before .before .before .before .before .before .before .before .before .before .before .head-of .ensures) (c .before .before .before .before .before .before .before .before .before .before .before .before .before .head .given .1) in
     let behind = behind-head _ _ _ _ (c .before .before .before .before .before .before .before .before .before .before .before .rest .ensures) (c .before .before .before .before .before .before .before .before .before .before .rest2 .ensures) (c .before .before .before .before .before .before .before .before .before .rest3 .ensures) in
     let answered = sym (c .compared .ensures .0 same .0) ∙ c .before .before .before .count-number .ensures ∙ ap doorNumber (c .before .before .before .before .punctured-coded-len-with .ensures) in
+    let info = number-read _ _ _ _ (c .before .before .before .before .before .before .before .before .number .ensures) (c .before .before .before .before .before .before .info .given .1) in
     record {
       code = _;
       rate = _;
+      numbers = head .numbers;
       info = _;
-      spelt = (head .code, (head .rate, (head .answer ∙ ap (numberSpelt 16) answered, sym behind ∙ number-read _ _ _ _ (c .before .before .before .before .before .before .before .before .number .ensures) (c .before .before .before .before .before .before .info .given .1) .0)));
+      short = info .1;
+      spelt = (head .code, (head .rate, (head .answer ∙ ap (numberSpelt 16) answered, sym behind ∙ info .0)));
     }
 
 pub length-case-spec : {M : Type 1} → statement M

@@ -90,6 +90,7 @@ returns-3 c = λ same.
     record {
       code = _;
       rate = _;
+      numbers = head .numbers;
       info = lists .info;
       room = lists .room;
       spelt = (head .code, (head .rate, (head .answer ∙ ap (numberSpelt 16) (lists .answered), (sym (ap firstField behind) ∙ lists .spelt .0, sym (ap laterFields behind) ∙ lists .spelt .1))));

@@ -1,7 +1,12 @@
--- `stream_cases::record::put_metric`: four bytes written where there is room for them. Assumes nothing.
+-- `stream_cases::record::put_metric`: four bytes go one behind the other. Assumes nothing.
+use Prim.Native.Nat.{ℕ}
 use native.Mathlib.Omega.{arith}
+use mathlib.Core.Path.{ap, _∙_}
 use borrow.Author.Needs.{needs}
 use lib.ListN.{length-set}
+use lib.Seq.{sets}
+use Rattle.stream_cases.specs.Record.{fourBytes}
+use Rattle.stream_cases.proofs.Spelt.{four-stored}
 use Rattle.stream_cases.proofs.record.put_metric.Statement.{statement}
 use Rattle.stream_cases.proofs.record.put_metric.Tie as tie
 
@@ -45,7 +50,9 @@ same-length : tie.Need-same-length
 same-length c = search needs
 
 returns : tie.Need-returns
-returns c = search needs
+returns c =
+    let args = c .before .before .args in
+    four-stored (args .bytes .now) (args .at) _ _ _ _ ∙ ap (λ (bits : ℕ). sets (args .bytes .now) (args .at) (fourBytes bits)) (c .bits-of .ensures)
 
 pub put-metric-spec : {M : Type 1} → statement M
 put-metric-spec =

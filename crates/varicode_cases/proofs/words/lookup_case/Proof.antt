@@ -51,7 +51,8 @@ same-length c = search needs
 returns-3 : tie.Need-returns-3
 returns-3 c = λ e.
     let len = number-read _ _ _ _ (c .before .before .before .before .before .before .before .before .before .before .before .before .number .ensures) (c .before .before .before .before .before .before .before .before .before .before .len .given .1) in
-    record { len = _; spelt = (sym (c .before .before .before .before .before .before .before .before .before .before .before .before .before .first .ensures) ∙ byte-spelt _ _ _ len (c .before .before .before .before .low .ensures), sym (c .before .before .before .before .before .before .before .before .rest .ensures) ∙ c .before .before .lookup-run .ensures e) }
+    let byte = byte-spelt _ _ _ len (c .before .before .before .before .low .ensures) in
+    record { len = _; short = byte .1; spelt = (sym (c .before .before .before .before .before .before .before .before .before .before .before .before .before .first .ensures) ∙ byte .0, sym (c .before .before .before .before .before .before .before .before .rest .ensures) ∙ c .before .before .lookup-run .ensures e) }
 
 pub lookup-case-spec : {M : Type 1} → statement M
 lookup-case-spec =

@@ -76,10 +76,12 @@ returns-4 c = λ e.
     let behind = c .before .before .before .before .before .before .before .before .before .before .before .before .before .before .before .before .rest .ensures in
     let word = c .before .before .before .before .varicode-encode .ensures in
     let long = sym (eqb-true _ _ (c .if2 .taken)) ∙ word .len in
+    let whole = byte-spelt _ _ _ byte (c .before .before .before .before .before .low .ensures) in
     record {
       byte = _;
+      short = whole .1;
       spelt = (
-        sym (c .before .before .before .before .before .before .before .before .before .before .before .before .before .before .before .before .before .before .before .before .before .first .ensures) ∙ byte-spelt _ _ _ byte (c .before .before .before .before .before .low .ensures),
+        sym (c .before .before .before .before .before .before .before .before .before .before .before .before .before .before .before .before .before .before .before .before .before .first .ensures) ∙ whole .0,
         (
           sym (c .before .before .before .before .before .before .before .before .before .before .before .before .before .before .before .first2 .ensures ∙ ap firstField behind) ∙ bits ∙ ap (numberSpelt 4) (sym (c .before .before .if1 .taken) ∙ word .bits),
           sym (c .before .before .before .before .before .before .before .before .before .before .rest2 .ensures ∙ ap laterFields behind) ∙ len ∙ ap (numberSpelt 2) long,
