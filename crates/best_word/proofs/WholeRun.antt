@@ -23,7 +23,8 @@ use Rattle.f32s.specs.Whole.{Whole}
 use Rattle.f32s.proofs.Ordered.{lt-trans, lt-irrefl}
 use Rattle.f32s.proofs.Wholes.{whole-zero, whole-neg, whole-add, whole-sub, whole-lt, mark-lt-whole, whole-not-le-mark}
 use Rattle.readings.specs.Places.{valueOf, filled, place0, place1}
-use Rattle.readings.specs.Sums.{mark, largest, correlation, brings, gain, started}
+use Rattle.branches.specs.Largest.{mark, largest}
+use Rattle.readings.specs.Sums.{correlation, brings, gain, started}
 use Rattle.readings.specs.Decode.{mets, froms, word, score}
 use Rattle.readings.proofs.Surplus.{gain-taken}
 use Rattle.trellis.specs.declared.ConvCode.{ConvCode}

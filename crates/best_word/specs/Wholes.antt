@@ -10,7 +10,7 @@ use lib.ListN.{length, getD}
 use Rattle.best_path.specs.Path.{Total, none, total, wholes, startedWhole}
 use Rattle.best_path.specs.Run.{metsAfter, survivors}
 use Rattle.f32s.specs.Whole.{Whole}
-use Rattle.readings.specs.Sums.{mark}
+use Rattle.branches.specs.Largest.{mark}
 use Rattle.trellis.specs.declared.ConvCode.{ConvCode}
 use Rattle.trellis.specs.Keep.{Keep, keeps0, keeps1, codedLength}
 use Rattle.trellis.specs.State.{window, parityOf}

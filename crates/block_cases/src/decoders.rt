@@ -119,18 +119,18 @@ fn symbols_lists(
     given: &mut [u8],
     wanted: &mut [u8],
     out: &mut [u8],
-    wanted_rows: &mut [u8],
+    stored_rows: &mut [u8],
     rows: &mut [u8],
 ) -> Verdict
     ensures { λ r. ⌜ (r ≡ Verdict.Same → DecodesSymbols hard answer (now (lists .entry))) ⌝ }
 {
-    if !fill_three(lists, given, wanted, wanted_rows) {
+    if !fill_three(lists, given, wanted, stored_rows) {
         return Verdict::Malformed;
     }
     untouch(out);
     untouch(rows);
     let got = symbols_decoded(hard, given, out, rows);
-    if !check::same(rows, wanted_rows) {
+    if !check::same(rows, stored_rows) {
         return Verdict::Differs;
     }
     compared(count_number(got), answer, out, wanted)

@@ -13,7 +13,8 @@ use Rattle.f32s.specs.Single.{zero32}
 use Rattle.trellis.specs.declared.ConvCode.{ConvCode}
 use Rattle.trellis.specs.Codeword.{stepsOf}
 use Rattle.trellis.specs.Keep.{Keep}
-use Rattle.readings.specs.Sums.{mark, largest, gain, started}
+use Rattle.branches.specs.Largest.{mark, largest}
+use Rattle.readings.specs.Sums.{gain, started}
 use Rattle.readings.specs.Decode.{mets, score}
 
 abbrev NotNan : Float → Type 0

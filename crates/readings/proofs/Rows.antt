@@ -15,7 +15,7 @@ use Rattle.trellis.specs.Codeword.{stepsOf}
 use Rattle.trellis.specs.Keep.{Keep}
 use Rattle.trellis.specs.Post.{Halved}
 use Rattle.trellis.proofs.States.{states-two-halves}
-use Rattle.readings.specs.Sums.{largest}
+use Rattle.branches.specs.Largest.{largest}
 use Rattle.readings.specs.Decode.{froms, word, filledRows}
 use Rattle.readings.proofs.Steps.{rows-filled}
 

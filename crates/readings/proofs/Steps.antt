@@ -23,7 +23,8 @@ use Rattle.trellis.specs.Post.{Rows}
 use Rattle.trellis.proofs.Columns.{rows-pattern, keeps0-column, keeps1-column}
 use Rattle.trellis.proofs.Kept.{one, coded-suc, coded-le}
 use Rattle.readings.specs.Places.{valueOf, filled, place0, place1}
-use Rattle.readings.specs.Sums.{mark, largest, brings, gain, started}
+use Rattle.branches.specs.Largest.{mark, largest}
+use Rattle.readings.specs.Sums.{brings, gain, started}
 use Rattle.readings.specs.Decode.{mets, froms}
 use Rattle.readings.specs.Post.{newMets, newFroms}
 

@@ -27,7 +27,8 @@ use Rattle.trellis.specs.Keep.{Keep, Pattern, keeps0, keeps1, codedLength}
 use Rattle.trellis.proofs.Chosen.{rate-pattern}
 use Rattle.trellis.proofs.Kept.{one, coded-suc, coded-mono}
 use Rattle.readings.specs.Places.{filled, place0, place1}
-use Rattle.readings.specs.Sums.{mark, largest, gain}
+use Rattle.branches.specs.Largest.{mark, largest}
+use Rattle.readings.specs.Sums.{gain}
 use Rattle.readings.specs.Decode.{mets, froms, word, score, filledRows}
 use Rattle.readings.specs.Said.{mostReadings, decodeSaid}
 use Rattle.readings.proofs.Answers.{length-few}

@@ -14,7 +14,8 @@ use Rattle.best_path.proofs.Stored.{met-of, from-of, stored, stored-step}
 use Rattle.trellis.specs.declared.ConvCode.{ConvCode}
 use Rattle.trellis.specs.Post.{Crossed}
 use Rattle.trellis.specs.State.{window, parityOf}
-use Rattle.readings.specs.Sums.{largest, correlation, brings}
+use Rattle.branches.specs.Largest.{largest}
+use Rattle.readings.specs.Sums.{correlation, brings}
 use Rattle.readings.specs.Post.{newMets, newFroms}
 use Rattle.readings.proofs.Sides.{sum-correlates, opposite-correlates}
 

@@ -1,16 +1,10 @@
 -- Of each entry, any two outcomes that its contract allows are equal. `Post` is the contract: of what the call is given, what it returns, and what it
 -- leaves in each argument. Assumes nothing.
 use mathlib.Core.Path.{_≡_, sym, _∙_}
-use Prim.Native.Nat.{ℕ}
 use Rattle.refusal.specs.declared.Decoded.{Decoded}
 use Rattle.refusal.proofs.Told.{word-told}
-use Rattle.readings.proofs.first_bad.Reads as first-bad
 use Rattle.readings.proofs.viterbi_decode_soft_with.Reads as viterbi-decode-soft-with
 use Rattle.readings.proofs.viterbi_decode_bytes.Reads as viterbi-decode-bytes
-
-pub first-bad-determined :
-    (κs : _) (given : _) (r r' : ℕ) (left left' : _) → first-bad.Post κs given r left → first-bad.Post κs given r' left' → r ≡ r'
-first-bad-determined κs given r r' left left' p q = p ∙ sym q
 
 pub viterbi-decode-soft-determined :
     (κs : _) (given : _) (r r' : Decoded) (left left' : _) → viterbi-decode-soft-with.Post κs given r left → viterbi-decode-soft-with.Post κs given r' left' → (r ≡ r') × (left .1 .1 .1 .1 .0 .now ≡ left' .1 .1 .1 .1 .0 .now) × (left .1 .1 .1 .1 .1 .0 .now ≡ left' .1 .1 .1 .1 .1 .0 .now)

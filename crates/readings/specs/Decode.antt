@@ -8,7 +8,8 @@ use Rattle.best_path.specs.Run.{metsAfter, survivors, traced}
 use Rattle.trellis.specs.declared.ConvCode.{ConvCode}
 use Rattle.trellis.specs.Codeword.{stepsOf}
 use Rattle.trellis.specs.Keep.{Keep}
-use Rattle.readings.specs.Sums.{mark, largest, gain, started}
+use Rattle.branches.specs.Largest.{mark, largest}
+use Rattle.readings.specs.Sums.{gain, started}
 
 module _ (code : ConvCode) (p : Keep) (readings : List Float) where
   -- the metrics after t steps, and the survivors of step t

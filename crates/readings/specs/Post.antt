@@ -6,7 +6,8 @@ use lib.Ieee.{Float, nan}
 use lib.ListN.{getD}
 use Rattle.best_path.specs.Step.{Cell, step}
 use Rattle.trellis.specs.declared.ConvCode.{ConvCode}
-use Rattle.readings.specs.Sums.{largest, brings}
+use Rattle.branches.specs.Largest.{largest}
+use Rattle.readings.specs.Sums.{brings}
 
 -- a step that reads a and b, from the metrics as the code holds them
 abbrev pub stepped : ConvCode → List Float → Float → Float → List (Cell Float)

@@ -1,30 +1,16 @@
 -- Correlations and metrics in f32, each operation rounded once. Definitions only.
-use mathlib.Core.Bool.{cond, not}
+use mathlib.Core.Bool.{cond}
 use mathlib.Core.List.{List}
 use Prim.Native.Nat.{ℕ}
 use lib.Dec.{eqb}
-use lib.Ieee.{Float, binary32, ofBits, add, sub, neg, lt, le}
-use Rattle.best_path.specs.Metric.{Metric}
+use lib.Ieee.{Float, binary32, add, sub, neg}
 use Rattle.best_path.specs.Run.{startedAt}
+use Rattle.branches.specs.Largest.{largest}
 use Rattle.f32s.specs.Single.{zero32}
 use Rattle.trellis.specs.declared.ConvCode.{ConvCode}
 use Rattle.trellis.specs.Keep.{Keep}
 use Rattle.trellis.specs.State.{window, parityOf}
 use Rattle.readings.specs.Places.{valueOf, place0, place1}
-
--- the mark of a state that is not reached: f32::MIN / 2
-abbrev pub mark : Float
-mark = ofBits binary32 0xfeff_ffff
-
--- A state at or below the mark is skipped; only a strictly greater candidate replaces.
-abbrev pub largest : Metric Float Float
-largest =
-    record {
-      mark = mark;
-      reached = λ (m : Float). not (le m mark);
-      add = λ (m c : Float). add binary32 m c;
-      better = λ (x y : Float). lt y x;
-    }
 
 -- a+b, a-b, (-a)+b, (-a)-b for the coded pairs 00, 01, 10, 11
 unfoldable pub correlation : Float → Float → ℕ → ℕ → Float

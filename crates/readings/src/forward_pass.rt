@@ -8,12 +8,12 @@ ghost use lib.ListN.{length, getD, drop};
 ghost use Rattle.readings.specs.Decode.{mets, filledRows};
 ghost use Rattle.readings.specs.Places.{valueOf, filled};
 ghost use Rattle.readings.specs.Post.{newMets, newFroms};
-ghost use Rattle.readings.specs.Sums.{mark};
+ghost use Rattle.branches.specs.Largest.{mark};
 ghost use Rattle.trellis.specs.Choice.{keepOf};
 ghost use Rattle.trellis.specs.Post.{Rows, Halved, Crossed};
-use crate::branches::MARK;
-use crate::branches::butterfly;
-use crate::branches::signed;
+use branches::largest::MARK;
+use branches::largest::butterfly;
+use branches::largest::signed;
 use trellis::ConvCode;
 use trellis::KeepPattern;
 

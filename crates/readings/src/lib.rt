@@ -4,9 +4,8 @@ ghost use mathlib.Core.Path.{_≡_};
 ghost use Prim.Native.Nat.{_-_, _*_, _^_, _≤_};
 ghost use lib.ListN.{length, drop};
 ghost use Rattle.encoder.specs.Encode.{lengthOf};
-ghost use Rattle.f32s.specs.Single.{finite, allOfBytes};
+ghost use Rattle.f32s.specs.Single.{allOfBytes};
 ghost use Rattle.refusal.specs.Answer.{wordSaid, refused};
-ghost use Rattle.refusal.specs.First.{firstBad};
 ghost use Rattle.refusal.specs.Lent.{leaves};
 ghost use Rattle.trellis.specs.Choice.{codeOf, patternOf, keepOf};
 ghost use Rattle.trellis.specs.Codeword.{stepsOf};
@@ -15,7 +14,6 @@ ghost use Rattle.readings.specs.Decode.{word, score, filledRows};
 ghost use Rattle.readings.specs.Post.{UsedOf};
 ghost use Rattle.readings.specs.Said.{survivorsOf, decodeSaid};
 
-mod branches;
 mod forward_pass;
 
 use forward_pass::forward;
@@ -23,20 +21,6 @@ use refusal::Decoded;
 use refusal::Refusal;
 use trellis::ConvCode;
 use trellis::KeepPattern;
-
-// The index of the first reading that is NaN or infinite, and the length where none is.
-pub fn first_bad(readings: &[f32]) -> usize
-    ensures { λ r. ⌜ r ≡ firstBad finite (now (readings .entry)) ⌝ }
-{
-    let used = readings.len();
-    for i in 0..used {
-        let good = f32s::is_finite(readings[i]);
-        if !good {
-            return i;
-        }
-    }
-    used
-}
 
 // All steps and the way back, for a code and a keep pattern. Answers the score; the word goes to the
 // front of out, the survivors to the front of scratch.
@@ -130,7 +114,7 @@ pub fn viterbi_decode_soft_with(
         return no_word(5, 0);
     }
     let used = used_of(code, rate, info, readings.len());
-    let bad = first_bad(&readings[..used]);
+    let bad = refusal::first_bad(&readings[..used]);
     if bad < used {
         return no_word(6, bad as u32);
     }

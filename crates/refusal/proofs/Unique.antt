@@ -9,6 +9,8 @@ use Rattle.refusal.proofs.no_count.Reads as no-count
 use Rattle.refusal.proofs.not_done.Reads as not-done
 use Rattle.refusal.proofs.count_number.Reads as count-number
 use Rattle.refusal.proofs.word_number.Reads as word-number
+use Rattle.refusal.proofs.first_bad.Reads as first-bad
+use Rattle.refusal.proofs.first_beyond.Reads as first-beyond
 
 pub no-count-determined :
     (κs : _) (given : _) (r r' : Counted) (left left' : _) → no-count.Post κs given r left → no-count.Post κs given r' left' → r ≡ r'
@@ -25,3 +27,11 @@ count-number-determined κs given r r' left left' p q = p ∙ sym q
 pub word-number-determined :
     (κs : _) (given : _) (r r' : ℕ) (left left' : _) → word-number.Post κs given r left → word-number.Post κs given r' left' → r ≡ r'
 word-number-determined κs given r r' left left' p q = p ∙ sym q
+
+pub first-bad-determined :
+    (κs : _) (given : _) (r r' : ℕ) (left left' : _) → first-bad.Post κs given r left → first-bad.Post κs given r' left' → r ≡ r'
+first-bad-determined κs given r r' left left' p q = p ∙ sym q
+
+pub first-beyond-determined :
+    (κs : _) (given : _) (r r' : ℕ) (left left' : _) → first-beyond.Post κs given r left → first-beyond.Post κs given r' left' → r ≡ r'
+first-beyond-determined κs given r r' left left' p q = p ∙ sym q

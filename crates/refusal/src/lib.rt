@@ -1,6 +1,8 @@
-// What an entry answers: its value, or a refusal with document 01's number and a place.
+// What an entry answers: its value, or a refusal with document 01's number and a place; and the place of refusals 6 and 7.
 ghost use mathlib.Core.Path.{_≡_};
 ghost use Rattle.refusal.specs.Answer.{countSaid, wordSaid, doneSaid, scoreBits, refused, doorNumber};
+ghost use Rattle.refusal.specs.First.{firstBad};
+ghost use Rattle.f32s.specs.Single.{finite, within};
 
 // The most info bits or symbols that one call may bring.
 pub const MOST: usize = 4096;
@@ -70,4 +72,32 @@ pub fn word_number(answer: Decoded) -> u64
         Decoded::Word(score) => f32s::bits_of(score) as u64,
         Decoded::Refused(r) => refused_number(r),
     }
+}
+
+// The place of refusal 6: the index of the first reading that is NaN or infinite, and the length where none is.
+pub fn first_bad(readings: &[f32]) -> usize
+    ensures { λ r. ⌜ r ≡ firstBad finite (now (readings .entry)) ⌝ }
+{
+    let used = readings.len();
+    for i in 0..used {
+        let good = f32s::is_finite(readings[i]);
+        if !good {
+            return i;
+        }
+    }
+    used
+}
+
+// The place of refusal 7: the index of the first component that is NaN or beyond ±1,024, and the length where none is.
+pub fn first_beyond(components: &[f32]) -> usize
+    ensures { λ r. ⌜ r ≡ firstBad within (now (components .entry)) ⌝ }
+{
+    let count = components.len();
+    for at in 0..count {
+        let inside = f32s::within(components[at]);
+        if !inside {
+            return at;
+        }
+    }
+    count
 }

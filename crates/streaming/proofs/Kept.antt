@@ -8,7 +8,7 @@ use lib.Ieee.{Float, nan}
 use lib.ListN.{length, getD, set}
 use lib.Seq.{set-getD}
 use Rattle.best_path.proofs.Survivors.{any-default}
-use Rattle.symbols.specs.Costs.{mark, smallest}
+use Rattle.branches.specs.Smallest.{mark, smallest}
 use Rattle.streaming.specs.Stream.{kept}
 
 -- writing the old content back changes nothing

@@ -9,7 +9,7 @@ use lib.Ieee.{Float, nan, lt}
 use lib.ListN.{length, getD, set}
 use Rattle.best_path.proofs.Survivors.{any-default}
 use Rattle.f32s.specs.Single.{zero32}
-use Rattle.symbols.specs.Costs.{mark}
+use Rattle.branches.specs.Smallest.{mark}
 use Rattle.streaming.specs.Stream.{leastOf, lowered, normalised}
 
 -- ---- the least metric

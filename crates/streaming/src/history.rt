@@ -2,11 +2,11 @@
 ghost use mathlib.Core.Bool.{cond};
 ghost use mathlib.Core.Path.{_≡_};
 ghost use Prim.Native.Nat.{_+_, _/_, _≤_, _<_};
-ghost use Rattle.symbols.specs.Costs.{smallest};
+ghost use Rattle.branches.specs.Smallest.{smallest};
 ghost use Rattle.streaming.specs.Stream.{kept, behind};
 ghost use Rattle.streaming.specs.Held.{lag};
 use crate::LAG;
-use symbols::branches::MARK;
+use branches::smallest::MARK;
 
 // The survivor of a state of metric m, and the old entry where no candidate won.
 fn survivor(m: f32, new: u8, old: u8) -> u8

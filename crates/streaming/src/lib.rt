@@ -13,6 +13,7 @@ mod history;
 mod metrics;
 mod sent;
 
+use branches::smallest::MARK;
 use history::keep;
 use history::state_behind;
 use history::top_bit;
@@ -20,7 +21,6 @@ use metrics::normalise_after;
 use metrics::select;
 use refusal::Counted;
 use refusal::Refusal;
-use symbols::branches::MARK;
 use symbols::forward_pass::first_least;
 
 // How many symbols a bit comes late.

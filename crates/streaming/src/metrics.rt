@@ -9,7 +9,7 @@ ghost use Rattle.symbols.specs.Post.{newMets, newFroms};
 ghost use Rattle.streaming.specs.Stream.{turns, leastOf, lowered, normalised};
 use crate::sent::SENT0;
 use crate::sent::SENT1;
-use symbols::branches::MARK;
+use branches::smallest::MARK;
 use symbols::forward_pass::step;
 
 // One symbol: the new metrics go to next, the survivors to the front of froms.
@@ -31,7 +31,7 @@ fn least_of(pm: &[f32; 16]) -> f32
     let whole = &pm[..];
     let mut least = MARK;
     for s in 0..16 {
-        least = symbols::branches::smaller(least, pm[s]);
+        least = branches::smallest::smaller(least, pm[s]);
     }
     least
 }

@@ -15,7 +15,7 @@ use Rattle.refusal.specs.Lent.{leaves}
 use Rattle.refusal.proofs.FirstBad.{some-bad, none-bad}
 use Rattle.refusal.proofs.Over.{accepted-leaves}
 use Rattle.trellis.specs.Choice.{k5}
-use Rattle.symbols.specs.Costs.{smallest}
+use Rattle.branches.specs.Smallest.{smallest}
 use Rattle.symbols.specs.Decode.{firstLeast, mets, froms, word, filledRows}
 use Rattle.symbols.specs.Said.{examined, roomFor, symbolsIn, softSaid, hardSaid, phasorsOf}
 use Rattle.symbols.proofs.Hard.{length-phasors, none-beyond}

@@ -20,7 +20,8 @@ use Rattle.refusal.specs.Limits.{most}
 use Rattle.trellis.specs.declared.ConvCode.{ConvCode}
 use Rattle.trellis.specs.State.{window, parityOf}
 use Rattle.symbols.specs.declared.phasors.Phasor.{Phasor}
-use Rattle.symbols.specs.Costs.{one32, phasors, phasorOf, cost, costs, mark, smallest, started}
+use Rattle.branches.specs.Smallest.{mark, smallest}
+use Rattle.symbols.specs.Costs.{one32, phasors, phasorOf, cost, costs, started}
 use Rattle.symbols.specs.Decode.{symbolCosts, mets}
 
 -- ---- a cost

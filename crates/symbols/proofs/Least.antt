@@ -8,7 +8,7 @@ use native.Mathlib.Omega.{arith}
 use lib.Ieee.{Float, nan, lt}
 use lib.ListN.{length, getD}
 use Rattle.best_path.proofs.Survivors.{any-default}
-use Rattle.symbols.specs.Costs.{mark}
+use Rattle.branches.specs.Smallest.{mark}
 use Rattle.symbols.specs.Decode.{firstLeast}
 
 one-of : (b : Bool) (m n bound : ℕ) → m < bound → n < bound → cond b m n < bound

@@ -15,7 +15,8 @@ use Rattle.trellis.specs.Choice.{k5, codeOf}
 use Rattle.trellis.specs.declared.ConvCode.{ConvCode}
 use Rattle.trellis.specs.Post.{Halved, Crossed}
 use Rattle.trellis.proofs.Chosen.{code-narrow, code-ends}
-use Rattle.symbols.specs.Costs.{mark, smallest, costs, started}
+use Rattle.branches.specs.Smallest.{mark, smallest}
+use Rattle.symbols.specs.Costs.{costs, started}
 use Rattle.symbols.specs.Decode.{symbolCosts, mets, froms}
 use Rattle.symbols.specs.Post.{newMets, newFroms}
 

@@ -14,7 +14,8 @@ use Rattle.best_path.proofs.Stored.{met-of, from-of, stored, stored-step}
 use Rattle.trellis.specs.Choice.{k5}
 use Rattle.trellis.specs.Post.{Crossed}
 use Rattle.trellis.specs.State.{window, parityOf}
-use Rattle.symbols.specs.Costs.{smallest, cost, costs, phasorOf}
+use Rattle.branches.specs.Smallest.{smallest}
+use Rattle.symbols.specs.Costs.{cost, costs, phasorOf}
 use Rattle.symbols.specs.Post.{Priced, pairCost, newMets, newFroms}
 use Rattle.symbols.specs.declared.phasors.Prices.{Prices}
 use Rattle.symbols.proofs.Prices.{pair-cost, opposite-cost}

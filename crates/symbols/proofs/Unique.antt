@@ -1,19 +1,11 @@
 -- Of each entry, and of each part that other crates may call, any two outcomes that its contract allows are equal. `Post` is the contract: of what the call is given, what it returns, and what it
 -- leaves in each argument. Assumes nothing.
-use mathlib.Core.Path.{_≡_, sym, ap, ap₂, _∙_}
+use mathlib.Core.Path.{_≡_, sym, _∙_}
 use Prim.Native.Nat.{ℕ}
-use lib.Ieee.{Float}
-use Rattle.best_path.specs.declared.Best.{Best}
-use Rattle.best_path.specs.declared.Wing.{Wing}
-use Rattle.best_path.specs.Post.{cellOf}
-use Rattle.best_path.specs.Step.{Cell}
 use Rattle.refusal.specs.declared.Counted.{Counted}
 use Rattle.refusal.proofs.Told.{count-told}
 use Rattle.symbols.proofs.viterbi_decode.Reads as viterbi-decode
 use Rattle.symbols.proofs.viterbi_decode_hard.Reads as viterbi-decode-hard
-use Rattle.symbols.proofs.branches.smaller.Reads as smaller
-use Rattle.symbols.proofs.branches.butterfly.Reads as butterfly
-use Rattle.symbols.proofs.branches.cost_of_pair.Reads as cost-of-pair
 use Rattle.symbols.proofs.forward_pass.step.Reads as step
 use Rattle.symbols.proofs.forward_pass.first_least.Reads as first-least
 use Rattle.symbols.proofs.forward_pass.forward.Reads as forward
@@ -27,24 +19,6 @@ pub viterbi-decode-hard-determined :
 viterbi-decode-hard-determined κs given r r' left left' p q = (count-told r r' (p .0 ∙ sym (q .0)), p .1 .0 ∙ sym (q .1 .0), p .1 .1 ∙ sym (q .1 .1))
 
 -- ---- parts
-
-pub smaller-determined :
-    (κs : _) (given : _) (r r' : Float) (left left' : _) → smaller.Post κs given r left → smaller.Post κs given r' left' → r ≡ r'
-smaller-determined κs given r r' left left' p q = p ∙ sym q
-
-abbrev bestOf : Cell Float → Best
-bestOf c = record { met = c .met; from = c .from }
-
-abbrev wingOf : Best → Best → Wing
-wingOf low high = record { low = low; high = high }
-
-pub butterfly-determined :
-    (κs : _) (given : _) (r r' : Wing) (left left' : _) → butterfly.Post κs given r left → butterfly.Post κs given r' left' → r ≡ r'
-butterfly-determined κs given r r' left left' p q = ap₂ wingOf (ap bestOf (p .low ∙ sym (q .low))) (ap bestOf (p .high ∙ sym (q .high)))
-
-pub cost-of-pair-determined :
-    (κs : _) (given : _) (r r' : Float) (left left' : _) → cost-of-pair.Post κs given r left → cost-of-pair.Post κs given r' left' → r ≡ r'
-cost-of-pair-determined κs given r r' left left' p q = p ∙ sym q
 
 pub step-determined :
     (κs : _) (given : _) (r r' : _) (left left' : _) → step.Post κs given r left → step.Post κs given r' left' → (left .1 .1 .1 .1 .1 .0 .now ≡ left' .1 .1 .1 .1 .1 .0 .now) × (left .1 .1 .1 .1 .1 .1 .0 .now ≡ left' .1 .1 .1 .1 .1 .1 .0 .now)

@@ -13,7 +13,7 @@ use Rattle.best_path.specs.Run.{traced}
 use Rattle.best_path.proofs.Rows.{length-traced, left-traceable, left-way-back}
 use Rattle.trellis.specs.declared.ConvCode.{ConvCode}
 use Rattle.trellis.specs.Choice.{k5, codeOf}
-use Rattle.symbols.specs.Costs.{smallest}
+use Rattle.branches.specs.Smallest.{smallest}
 use Rattle.symbols.specs.Decode.{firstLeast, mets, froms, word, filledRows}
 use Rattle.symbols.proofs.Least.{least-below}
 use Rattle.symbols.proofs.Steps.{chosen-k5, k5-halved, rows-filled}

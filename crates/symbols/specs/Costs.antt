@@ -1,10 +1,10 @@
 -- The phasor table, and what a branch costs in f32, each operation rounded once. Definitions only.
 use mathlib.Core.List.{List, [], _∷_}
 use Prim.Native.Nat.{ℕ, _+_, _*_}
-use lib.Ieee.{Float, binary32, ofBits, neg, add, sub, mul, lt}
+use lib.Ieee.{Float, binary32, ofBits, neg, add, sub, mul}
 use lib.ListN.{getD}
-use Rattle.best_path.specs.Metric.{Metric}
 use Rattle.best_path.specs.Run.{startedAt}
+use Rattle.branches.specs.Smallest.{smallest}
 use Rattle.f32s.specs.Single.{zero32}
 use Rattle.trellis.specs.declared.ConvCode.{ConvCode}
 use Rattle.trellis.specs.State.{window, parityOf}
@@ -35,20 +35,6 @@ cost re im at =
 unfoldable pub costs : ConvCode → Float → Float → ℕ → ℕ → Float
 unfolding cost parityOf
 costs code re im s i = cost re im (phasorOf (parityOf (code .g0) (window code s i)) (parityOf (code .g1) (window code s i)))
-
--- the mark of a state that is not reached: f32::MAX / 2
-abbrev pub mark : Float
-mark = ofBits binary32 0x7eff_ffff
-
--- A state is reachable when its metric is below the mark, and skipped where it is not; only a strictly smaller candidate replaces.
-abbrev pub smallest : Metric Float Float
-smallest =
-    record {
-      mark = mark;
-      reached = λ (m : Float). lt m mark;
-      add = λ (m c : Float). add binary32 m c;
-      better = λ (x y : Float). lt x y;
-    }
 
 -- State 0 starts at 0.0.
 abbrev pub started : ConvCode → List Float

@@ -8,7 +8,8 @@ use lib.Ieee.{Float, nan}
 use lib.ListN.{getD}
 use Rattle.best_path.specs.Step.{Cell, step}
 use Rattle.trellis.specs.Choice.{k5}
-use Rattle.symbols.specs.Costs.{smallest, cost, costs, phasorOf}
+use Rattle.branches.specs.Smallest.{smallest}
+use Rattle.symbols.specs.Costs.{cost, costs, phasorOf}
 use Rattle.symbols.specs.declared.phasors.Prices.{Prices}
 
 -- the four costs of a symbol

@@ -7,10 +7,10 @@ ghost use Rattle.trellis.specs.Choice.{k5};
 ghost use Rattle.trellis.specs.Post.{Crossed};
 ghost use Rattle.symbols.specs.Decode.{firstLeast, mets, filledRows};
 ghost use Rattle.symbols.specs.Post.{newMets, newFroms};
-use crate::branches::MARK;
-use crate::branches::butterfly;
-use crate::branches::cost_of_pair;
+use crate::phasors::cost_of_pair;
 use crate::phasors::prices_of;
+use branches::smallest::MARK;
+use branches::smallest::butterfly;
 
 // One step of a symbol: the new metrics go to next, the survivors to the front of row. Survivor numbers
 // come from a counter of their own: made from n they keep the loop from being vectorised well.

@@ -3,15 +3,12 @@ ghost use mathlib.Core.List.{_++_};
 ghost use mathlib.Core.Path.{_≡_};
 ghost use Prim.Native.Nat.{_*_, _/_, _≤_};
 ghost use lib.ListN.{length, drop};
-ghost use Rattle.f32s.specs.Single.{within};
 ghost use Rattle.refusal.specs.Answer.{countSaid};
-ghost use Rattle.refusal.specs.First.{firstBad};
 ghost use Rattle.refusal.specs.Lent.{leaves};
 ghost use Rattle.trellis.specs.Choice.{k5};
 ghost use Rattle.symbols.specs.Decode.{word, filledRows};
 ghost use Rattle.symbols.specs.Said.{symbolsIn, softSaid, hardSaid, phasorsOf};
 
-pub mod branches;
 pub mod forward_pass;
 mod phasors;
 
@@ -19,20 +16,6 @@ use forward_pass::forward;
 use phasors::PHASORS;
 use refusal::Counted;
 use refusal::Refusal;
-
-// The index of the first component that is NaN or beyond ±1,024, and the length where none is.
-fn first_beyond(used: &[f32]) -> usize
-    ensures { λ r. ⌜ r ≡ firstBad within (now (used .entry)) ⌝ }
-{
-    let count = used.len();
-    for i in 0..count {
-        let good = f32s::within(used[i]);
-        if !good {
-            return i;
-        }
-    }
-    count
-}
 
 // All symbols and the way back. The word goes to the front of out, the survivors to the front of scratch.
 fn decode(soft: &[f32], count: usize, out: &mut [u8], scratch: &mut [u8])
@@ -64,7 +47,7 @@ pub fn viterbi_decode(soft: &[f32], out: &mut [u8], scratch: &mut [u8]) -> Count
         return refusal::no_count(5);
     }
     let used = 2 * count;
-    let bad = first_beyond(&soft[..used]);
+    let bad = refusal::first_beyond(&soft[..used]);
     if bad < used {
         return Counted::Refused(Refusal {
             number: 7,

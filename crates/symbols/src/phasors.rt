@@ -1,7 +1,7 @@
 // The phasor table, and what a branch costs.
 ghost use mathlib.Core.Path.{_≡_};
 ghost use Rattle.symbols.specs.Costs.{cost};
-ghost use Rattle.symbols.specs.Post.{Priced};
+ghost use Rattle.symbols.specs.Post.{Priced, pairCost};
 
 // A point of the constellation.
 pub struct Phasor {
@@ -42,5 +42,16 @@ pub fn prices_of(re: f32, im: f32) -> Prices
         of_01: cost(re, im, PHASORS[1]),
         of_10: cost(re, im, PHASORS[2]),
         of_11: cost(re, im, PHASORS[3]),
+    }
+}
+
+// The cost of a coded pair, by tests: a look-up would keep the loop of a step from being vectorised.
+pub fn cost_of_pair(c0: u32, c1: u32, of_00: f32, of_01: f32, of_10: f32, of_11: f32) -> f32
+    ensures { λ r. ⌜ r ≡ pairCost c0 c1 of_00 of_01 of_10 of_11 ⌝ }
+{
+    if c0 < 1 {
+        if c1 < 1 { of_00 } else { of_01 }
+    } else {
+        if c1 < 1 { of_10 } else { of_11 }
     }
 }

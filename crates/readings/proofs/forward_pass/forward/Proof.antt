@@ -18,7 +18,7 @@ use Rattle.trellis.specs.Keep.{codedLength}
 use Rattle.trellis.specs.Post.{Rows}
 use Rattle.trellis.proofs.Columns.{column-next}
 use Rattle.trellis.proofs.States.{states-two-halves}
-use Rattle.readings.specs.Sums.{mark}
+use Rattle.branches.specs.Largest.{mark}
 use Rattle.readings.specs.Decode.{mets, filledRows}
 use Rattle.readings.proofs.Steps.{Agrees, agrees-start, agrees-next, new-froms, rows-filled, none-coded, one-at-most, column-below, column-within, reads-few, reads-place0, reads-place1, counts-both}
 use Rattle.readings.proofs.forward_pass.forward.Statement.{statement}

@@ -1,0 +1,2 @@
+-- Unique: each contract allows one outcome at most.
+pub mod Unique
