@@ -1,7 +1,8 @@
 -- Written: a text written piece by piece. Digits: a number's digits, the last first. Decoding: the line's answer is the decoder's. Example: document
--- 01's example. Unique: the contract allows one outcome at most.
+-- 01's example. Cut: only the bytes that the program has room for count. Unique: each contract allows one outcome at most.
 pub mod Written
 pub mod Digits
 pub mod Decoding
 pub mod Example
+pub mod Cut
 pub mod Unique

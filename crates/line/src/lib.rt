@@ -2,11 +2,11 @@
 ghost use mathlib.Core.Bool.{cond};
 ghost use mathlib.Core.List.{[]};
 ghost use mathlib.Core.Path.{_≡_};
-ghost use Prim.Native.Nat.{_≤_};
+ghost use Prim.Native.Nat.{_+_, _≤_};
 ghost use lib.Dec.{ltb};
-ghost use lib.ListN.{length};
+ghost use lib.ListN.{length, replicate};
 ghost use Rattle.refusal.specs.Answer.{accepted, refused, wordSaid};
-ghost use Rattle.line.specs.Line.{shaped, lineOf, output};
+ghost use Rattle.line.specs.Line.{mostBytes, shaped, lineOf, output};
 ghost use Rattle.line.specs.Post.{Holds, refusalIn};
 
 mod text;
@@ -23,6 +23,9 @@ const MOST_BYTES: usize = 8192;
 
 const MOST_INFO: usize = 1000;
 
+// One byte more than an input may have: so a longer one is told from the longest.
+pub const ROOM: usize = 8193;
+
 // The survivors of as many info bits, for K7: 1,006 steps of 64 states.
 const SURVIVORS: usize = 64384;
 
@@ -30,6 +33,13 @@ const SURVIVORS: usize = 64384;
 pub struct Line {
     pub bytes: [u8; 1024],
     pub count: usize,
+}
+
+// Room for the program's input.
+pub fn room() -> [u8; ROOM]
+    ensures { λ r. ⌜ r ≡ replicate (mostBytes + 1) 0 ⌝ }
+{
+    [0; ROOM]
 }
 
 // 4 + 4k bytes, and no more than the most.

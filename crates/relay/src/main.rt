@@ -2,11 +2,8 @@
 use libc::STDIN_FILENO;
 use libc::STDOUT_FILENO;
 
-// One byte more than an input may have: so a longer one is told from the longest.
-const ROOM: usize = 8193;
-
 fn main() {
-    let mut space = [0u8; ROOM];
+    let mut space = line::room();
     let n = io::read_full(STDIN_FILENO, &mut space[..]);
     let l = line::answer(&space[..n]);
     let bytes = l.bytes;

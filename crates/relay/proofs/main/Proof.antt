@@ -6,6 +6,9 @@ use Rattle.line.proofs.Written.{count-within}
 use Rattle.relay.proofs.main.Statement.{statement}
 use Rattle.relay.proofs.main.Tie as tie
 
+room-requires : tie.Need-room-requires
+room-requires c κs = search needs
+
 slice-aggregate-read-full : tie.Need-slice-aggregate-read-full
 slice-aggregate-read-full c = search needs
 
@@ -37,6 +40,7 @@ pub main-spec : {M : Type 1} → statement M
 main-spec =
     tie.close
     (tie.spec
+    room-requires
     slice-aggregate-read-full
     read-full-requires
     array-share-prefix-space
