@@ -13,6 +13,8 @@
  *   answer >> 32         0, or the refusal's number
  *   (uint32_t)answer     the count or the score's bits, or the place
  *
+ * That these two tell every answer of every door is proved (doorRead, docs/ENTRIES.md).
+ *
  *   1   the code is not 0 or 1
  *   2   the rate is above 4
  *   3   there are more than 4096 info bits

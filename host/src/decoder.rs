@@ -17,19 +17,21 @@ pub struct Word {
     pub score: f32,
 }
 
-/// How many bytes of scratch the decoding of `info` bits needs: a survivor for each state at each step.
+/// How many bytes of scratch the decoding of `info` bits needs: a survivor for each state at each step. A count so huge
+/// that the number does not fit gives the largest there is; no decoding takes it.
 ///
 /// ```
 /// use relay_coder::{Code, scratch_len};
 ///
 /// assert_eq!(scratch_len(Code::K5, 3), (3 + 4) * 16);
+/// assert_eq!(scratch_len(Code::DvbK7, usize::MAX), usize::MAX);
 /// ```
 pub fn scratch_len(code: Code, info: usize) -> usize {
     let tail = match code {
         Code::K5 => 4,
         Code::DvbK7 => 6,
     };
-    (info + tail) << tail
+    info.saturating_add(tail).saturating_mul(1 << tail)
 }
 
 /// The word of `info` bits that the readings fit best; of equal ones always the same.

@@ -30,7 +30,8 @@ pub fn score(answer: u64) -> Result<f32, Refusal> {
     accepted(answer).map(f32::from_bits)
 }
 
-/// The lowest 32 bits, unless a refusal's number stands above them.
+/// The lowest 32 bits, unless a refusal's number stands above them: proved to be the door's answer again (`doorRead` in
+/// `crates/refusal/specs/Answer.antt`, and `proofs/Told.antt` of `crates/doors`).
 fn accepted(answer: u64) -> Result<u32, Refusal> {
     let (number, low) = ((answer >> 32) as u32, answer as u32);
     if number == 0 {

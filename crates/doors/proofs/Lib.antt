@@ -1,2 +1,3 @@
--- Unique: each contract allows one outcome at most.
+-- Unique: each contract allows one outcome at most. Told: a door's number tells its answer.
 pub mod Unique
+pub mod Told

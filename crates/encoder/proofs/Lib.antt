@@ -1,6 +1,7 @@
 -- Turn: a turn of the encoder's loop. Selected: what the code and rate numbers select, as the code holds it. Checks: the refusals in their order.
--- Unique: each contract allows one outcome at most.
+-- Counts: an accepted count is how many bits are written. Unique: each contract allows one outcome at most.
 pub mod Turn
 pub mod Selected
 pub mod Checks
+pub mod Counts
 pub mod Unique

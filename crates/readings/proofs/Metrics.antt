@@ -1,13 +1,16 @@
--- No metric is a NaN, whatever the readings are: a NaN is greater than nothing, so it never replaces. So the score has bits. Assumes nothing.
+-- No metric is a NaN, whatever the readings are: a NaN is greater than nothing, so it never replaces. And each is an f32, for it was rounded to one. So
+-- the score has bits, 32 of them. Assumes nothing.
 use mathlib.Core.Bool.{true, not}
 use mathlib.Core.List.{List}
 use mathlib.Core.Path.{_≡_, sym, subst}
 use Prim.Native.Nat.{ℕ, _^_, _<_}
 use lib.Dec.{T}
-use lib.Ieee.{Float, nan, inf, fin, lt, isNan, ofBits}
+use lib.Ieee.{Float, nan, inf, fin, binary32, lt, isNan, fits, ofBits, toBits}
+use lib.Ieee.Bits.{ofBits-fits, toBits-lt}
+use lib.Ieee.Fits.{add-fits}
 use lib.ListN.{getD}
 use lib.Pow.{pow-pos}
-use Rattle.best_path.proofs.Metrics.{metric-holds}
+use Rattle.best_path.proofs.Metrics.{metric-kept, metric-holds}
 use Rattle.best_path.proofs.Start.{started-holds}
 use Rattle.f32s.specs.Single.{zero32}
 use Rattle.trellis.specs.declared.ConvCode.{ConvCode}
@@ -46,3 +49,14 @@ module _ (code : ConvCode) (some : 0 < code .width) (p : Keep) (readings : List 
   pub score-not-nan : (info : ℕ) → NotNan (score code p readings info)
   unfolding score
   score-not-nan info = metric-not-nan (stepsOf code info) 0 (pow-pos (code .width))
+
+  pub metric-fits : (t s : ℕ) → s < 2 ^ code .width → T (fits binary32 (getD (mets code p readings t) s mark))
+  unfolding mets
+  metric-fits =
+      metric-kept largest code some (gain code p readings) (λ t m. T (fits binary32 m)) (λ t. ofBits-fits binary32 _)
+      (λ t s i m y h r b. add-fits binary32 m (gain code p readings t s i)) (started code)
+      (λ s h. started-holds largest code zero32 (λ m. T (fits binary32 m)) (ofBits-fits binary32 _) (ofBits-fits binary32 _) s)
+
+  pub score-below : (info : ℕ) → toBits binary32 (score code p readings info) < 2 ^ 32
+  unfolding score
+  score-below info = toBits-lt binary32 _ (metric-fits (stepsOf code info) 0 (pow-pos (code .width)))

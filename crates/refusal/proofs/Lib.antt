@@ -1,7 +1,8 @@
 -- Over: writing over the front of a list. Told: an answer is fixed by what document 01 says of it. Determined: a contract allows one
--- outcome at most. FirstBad: the place of refusals 6 and 7. Unique: each contract allows one outcome at most.
+-- outcome at most. FirstBad: the place of refusals 6 and 7. Doors: a door's number tells its answer. Unique: each contract allows one outcome at most.
 pub mod Over
 pub mod Told
 pub mod Determined
 pub mod FirstBad
+pub mod Doors
 pub mod Unique

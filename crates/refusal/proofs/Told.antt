@@ -1,7 +1,8 @@
--- An answer is fixed by what document 01 says of it: two answers of which it says the same are equal. Assumes nothing.
+-- An answer is fixed by what document 01 says of it: two answers of which it says the same are equal. And what is accepted passed each test. Assumes nothing.
+use mathlib.Core.Bool.{Bool, true, false}
 use mathlib.Core.Path.{_≡_, ap, ap₂}
 use Prim.Native.Nat.{ℕ}
-use Rattle.refusal.specs.Answer.{countSaid, wordSaid, doneSaid}
+use Rattle.refusal.specs.Answer.{Said, accepted, refuseWhen, countSaid, wordSaid, doneSaid}
 use Rattle.refusal.specs.declared.Refusal.{Refusal}
 use Rattle.refusal.specs.declared.Counted.{Counted}
 use Rattle.refusal.specs.declared.Counted.the-variants as counted
@@ -33,3 +34,12 @@ done-told put.Done put.Done e = cc
 done-told put.Done (put.Refused r) e = cc
 done-told (put.Refused q) put.Done e = cc
 done-told (put.Refused q) (put.Refused r) e = ap put.Refused (same-refusal q r (cc) (cc))
+
+-- ---- what is accepted
+
+pub accepted-told : {A : Type 0} (a b : A) → accepted a ≡ accepted b → a ≡ b
+accepted-told a b e = cc
+
+pub accepted-past : {A : Type 0} (test : Bool) (number : ℕ) (rest : Said A) (a : A) → refuseWhen test number rest ≡ accepted a → rest ≡ accepted a
+accepted-past true number rest a e = cc
+accepted-past false number rest a e = e

@@ -1,6 +1,7 @@
 -- What document 01 says of an answer: the value of an accepted call, or the number and the place of a refusal. Definitions only.
-use mathlib.Core.Bool.{Bool, true, false}
-use Prim.Native.Nat.{ℕ, _+_, _*_, _^_}
+use mathlib.Core.Bool.{Bool, true, false, cond}
+use Prim.Native.Nat.{ℕ, _+_, _*_, _/_, _%_, _^_}
+use lib.Dec.{ltb}
 use lib.Ieee.{Float, binary32, toBits}
 use Rattle.refusal.specs.declared.Counted.{Counted}
 use Rattle.refusal.specs.declared.Counted.the-variants as counted
@@ -42,3 +43,7 @@ scoreBits (refused number place) = refused number place
 unfoldable pub doorNumber : Said ℕ → ℕ
 doorNumber (accepted n) = n
 doorNumber (refused number place) = number * 2 ^ 32 + place
+
+-- That number as the host reads it: below 2^32 it is the value; else the quotient by 2^32 is a refusal's number, and the remainder its place.
+unfoldable pub doorRead : ℕ → Said ℕ
+doorRead n = cond (ltb n (2 ^ 32)) (accepted n) (refused (n / 2 ^ 32) (n % 2 ^ 32))

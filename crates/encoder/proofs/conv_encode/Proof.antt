@@ -1,11 +1,12 @@
 -- `encoder::conv_encode`: K5 at rate 1/2 for as many steps as inputs. Assumes nothing.
+use mathlib.Core.List.{List}
 use mathlib.Core.Path.{sym, ap, _∙_}
 use Prim.Native.Nat.{ℕ}
 use native.Mathlib.Omega.{arith}
 use borrow.Author.Needs.{needs}
 use lib.ListN.{length}
 use Rattle.refusal.specs.Answer.{Said}
-use Rattle.refusal.specs.Lent.{leaves}
+use Rattle.refusal.specs.Lent.{over, leaves}
 use Rattle.encoder.specs.Encode.{plainWord}
 use Rattle.encoder.proofs.Checks.{plain-many, plain-short, plain-fits}
 use Rattle.encoder.proofs.Selected.{length-plain, word-plain}
@@ -45,7 +46,8 @@ returns-3 c =
     let fits =
     plain-fits (length (args .bits .now)) (length (args .out .now)) (c .before .before .before .before .before .if1 .left)
     (c .before .before .before .before .if2 .left) in
-    (sym fits, c .before .before .encode-at .ensures ∙ rw (fits, word-plain (args .bits .now)))
+    let written = ap (λ (word : List ℕ). over word (args .out .now)) (word-plain (args .bits .now)) in
+    (sym fits, c .before .before .encode-at .ensures ∙ written ∙ sym (ap (λ (s : Said ℕ). leaves s (plainWord (args .bits .now)) (args .out .now)) fits))
 
 pub conv-encode-spec : {M : Type 1} → statement M
 conv-encode-spec =
