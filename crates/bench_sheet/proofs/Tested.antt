@@ -5,6 +5,7 @@ use mathlib.Core.Path.{_≡_, refl, sym, ap₂, subst}
 use Prim.Native.Nat.{ℕ}
 use lib.Dec.{T, eqb, eqb→eq}
 use lib.ListN.{length}
+use Rattle.best_word.specs.Claim.{scoreOf}
 use Rattle.readings.specs.Decode.{word, score}
 use Rattle.trellis.specs.Choice.{patternOf}
 use Rattle.trellis.specs.Codeword.{stepsOf, codeword}
@@ -12,7 +13,7 @@ use Rattle.trellis.specs.Keep.{codedLength}
 use Rattle.varicode_words.proofs.Table.{both}
 use Rattle.varicode.specs.Reader.{nothingHeard, lettersFrom}
 use Rattle.varicode.specs.Writer.{byte, streamFrom}
-use Rattle.bench_sheet.specs.Sheet.{Line, coded, lengths, decodes, scores, writes, reads, Holds}
+use Rattle.bench_sheet.specs.Sheet.{Line, coded, lengths, decodes, scores, ties, writes, reads, Holds}
 
 -- two lists of numbers, entry by entry
 abbrev pub same : List ℕ → List ℕ → Bool
@@ -40,6 +41,7 @@ Passes (lengths code count atRates) =
     same (map (λ (rate : ℕ). codedLength (patternOf rate) (stepsOf code count)) (0 ∷ 1 ∷ 2 ∷ 3 ∷ 4 ∷ [])) atRates ≡ true
 Passes (decodes code rate heard bits) = same (word code (patternOf rate) heard (length bits)) bits ≡ true
 Passes (scores code rate count heard is) = score code (patternOf rate) heard count ≡ is
+Passes (ties code rate count whole u v) = scoreOf code (patternOf rate) count u whole ≡ scoreOf code (patternOf rate) count v whole
 Passes (writes text bits) = same (streamFrom true (map byte text)) bits ≡ true
 Passes (reads bits text) = same (lettersFrom nothingHeard bits) text ≡ true
 
@@ -48,5 +50,6 @@ holds (coded code rate info bits) e = equal _ bits e
 holds (lengths code count atRates) e = equal _ atRates e
 holds (decodes code rate heard bits) e = equal _ bits e
 holds (scores code rate count heard is) e = e
+holds (ties code rate count whole u v) e = e
 holds (writes text bits) e = equal _ bits e
 holds (reads bits text) e = equal _ text e

@@ -4,7 +4,9 @@ use mathlib.Core.List.{List, [], _∷_, map}
 use mathlib.Core.Path.{_≡_}
 use Prim.Native.Nat.{ℕ}
 use lib.Ieee.{Float, binary32, ofBits}
+use lib.IntN.{ℤ, pos, negℤ}
 use lib.ListN.{length}
+use Rattle.best_word.specs.Claim.{scoreOf}
 use Rattle.f32s.specs.Single.{zero32}
 use Rattle.readings.specs.Decode.{word, score}
 use Rattle.trellis.specs.declared.ConvCode.{ConvCode}
@@ -21,6 +23,7 @@ pub data Line : Type 0 where
   lengths : (code : ConvCode) (count : ℕ) (atRates : List ℕ) → Line
   decodes : (code : ConvCode) (rate : ℕ) (heard : List Float) (bits : List ℕ) → Line
   scores : (code : ConvCode) (rate count : ℕ) (heard : List Float) (is : Float) → Line
+  ties : (code : ConvCode) (rate count : ℕ) (whole : List ℤ) (u v : List ℕ) → Line
   writes : (text bits : List ℕ) → Line
   reads : (bits text : List ℕ) → Line
 
@@ -30,12 +33,14 @@ Holds (lengths code count atRates) =
     map (λ (rate : ℕ). codedLength (patternOf rate) (stepsOf code count)) (0 ∷ 1 ∷ 2 ∷ 3 ∷ 4 ∷ []) ≡ atRates
 Holds (decodes code rate heard bits) = word code (patternOf rate) heard (length bits) ≡ bits
 Holds (scores code rate count heard is) = score code (patternOf rate) heard count ≡ is
+Holds (ties code rate count whole u v) = scoreOf code (patternOf rate) count u whole ≡ scoreOf code (patternOf rate) count v whole
 Holds (writes text bits) = streamFrom true (map byte text) ≡ bits
 Holds (reads bits text) = lettersFrom nothingHeard bits ≡ text
 
-abbrev pub AllHold : List Line → Type 0
-AllHold [] = Unit
-AllHold (line ∷ lines) = Holds line × AllHold lines
+-- every line of a list holds
+pub data AllHold : List Line → Type 0 where
+  none : AllHold []
+  more : {line : Line} {lines : List Line} → Holds line → AllHold lines → AllHold (line ∷ lines)
 
 -- 1.0 and -1.0 by their bits
 abbrev one : Float
@@ -64,10 +69,12 @@ sheet =
     ∷ decodes k5 0 (minusOne ∷ []) (1 ∷ [])
     ∷ scores k5 0 1 (minusOne ∷ []) one
     ∷ decodes k5 0 (minusOne ∷ one ∷ []) (0 ∷ [])
+    ∷ ties k5 0 1 (negℤ (pos 1) ∷ pos 1 ∷ []) (0 ∷ []) (1 ∷ [])
     ∷ decodes k5 0 [] (0 ∷ 0 ∷ 0 ∷ [])
     ∷ scores k5 0 3 [] zero32
     ∷ writes (h ∷ i ∷ []) (1 ∷ 0 ∷ 1 ∷ 0 ∷ 1 ∷ 1 ∷ 0 ∷ 0 ∷ 1 ∷ 1 ∷ 0 ∷ 1 ∷ [])
     ∷ reads (1 ∷ 1 ∷ 0 ∷ 0 ∷ []) (e ∷ [])
     ∷ reads (0 ∷ 1 ∷ 1 ∷ 0 ∷ 0 ∷ []) []
     ∷ reads (0 ∷ 0 ∷ 1 ∷ 1 ∷ 0 ∷ 0 ∷ []) (e ∷ [])
+    ∷ reads (0 ∷ 1 ∷ 0 ∷ 1 ∷ 0 ∷ 1 ∷ 0 ∷ 1 ∷ 0 ∷ 1 ∷ 1 ∷ 0 ∷ 0 ∷ []) (0 ∷ [])
     ∷ []
