@@ -1,38 +1,23 @@
 -- A line of the sheet, tested: what is computed for it and what the sheet says, number by number. A line that passes holds. Assumes nothing.
-use mathlib.Core.Bool.{Bool, true, false, _&&_}
+use mathlib.Core.Bool.{true}
 use mathlib.Core.List.{List, [], _∷_, map}
-use mathlib.Core.Path.{_≡_, refl, sym, ap₂, subst}
+use mathlib.Core.Path.{_≡_, sym, subst}
 use Prim.Native.Nat.{ℕ}
-use lib.Dec.{T, eqb, eqb→eq}
+use lib.Dec.{T}
 use lib.ListN.{length}
 use Rattle.best_word.specs.Claim.{scoreOf}
 use Rattle.readings.specs.Decode.{word, score}
 use Rattle.trellis.specs.Choice.{patternOf}
 use Rattle.trellis.specs.Codeword.{stepsOf, codeword}
 use Rattle.trellis.specs.Keep.{codedLength}
-use Rattle.varicode_words.proofs.Table.{both}
+use Rattle.varicode_words.proofs.Table.{same, same-equal}
 use Rattle.varicode.specs.Reader.{nothingHeard, lettersFrom}
 use Rattle.varicode.specs.Writer.{byte, streamFrom}
 use Rattle.bench_sheet.specs.Sheet.{Line, coded, lengths, decodes, scores, ties, writes, reads, Holds}
 
--- two lists of numbers, entry by entry
-abbrev pub same : List ℕ → List ℕ → Bool
-same [] [] = true
-same [] (y ∷ ys) = false
-same (x ∷ xs) [] = false
-same (x ∷ xs) (y ∷ ys) = eqb x y && same xs ys
-
--- lists that pass are equal
-passed-equal : (xs ys : List ℕ) → T (same xs ys) → xs ≡ ys
-passed-equal [] [] t = refl
-passed-equal [] (y ∷ ys) t = absurd t
-passed-equal (x ∷ xs) [] t = absurd t
-passed-equal (x ∷ xs) (y ∷ ys) t =
-    let passed = both (eqb x y) (same xs ys) t in
-    ap₂ (λ (n : ℕ) (ns : List ℕ). n ∷ ns) (eqb→eq x y (passed .0)) (passed-equal xs ys (passed .1))
-
+-- lists that the test finds the same are equal
 equal : (xs ys : List ℕ) → same xs ys ≡ true → xs ≡ ys
-equal xs ys e = passed-equal xs ys (subst T (sym e) tt)
+equal xs ys e = same-equal xs ys (subst T (sym e) tt)
 
 -- what `Holds` says, as a test that comes to true; a score is one number, and is compared as it is
 abbrev pub Passes : Line → Type 0

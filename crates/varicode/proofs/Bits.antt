@@ -1,21 +1,21 @@
 -- The ways of a bit that is pushed: refused, joining the word, or ending it. Assumes nothing.
-use mathlib.Core.Bool.{Bool, true, false, cond}
-use mathlib.Core.Path.{_≡_, refl, sym, ap, ap₂, subst, _∙_}
-use Prim.Native.Nat.{ℕ, _-_, _/_, _%_, _≤_, _<_}
+use mathlib.Core.Bool.{true, false}
+use mathlib.Core.List.{List, [], _∷_}
+use mathlib.Core.Path.{_≡_, refl, ap, ap₂, _∙_}
+use Prim.Native.Nat.{ℕ, _+_, _-_, _/_, _%_, _≤_, _<_}
 use native.Mathlib.Omega.{arith}
-use borrow.Author.Tests.{lt-ltb, le-ltb, eq-eqb, ne-eqb}
-use lib.Dec.{eqb, lit≤}
+use borrow.Author.Tests.{lt-ltb, le-ltb}
+use lib.Dec.{lit<}
 use Rattle.queue.specs.declared.CharQueue.{CharQueue}
 use Rattle.queue.specs.Held.{chars}
-use Rattle.queue.specs.Ring.{Ring, readAs, putOne}
+use Rattle.queue.specs.Ring.{Ring, readAs, putOne, putAll}
 use Rattle.refusal.specs.Answer.{accepted, refused, doneSaid}
-use Rattle.varicode_words.specs.declared.Letter.{Letter}
-use Rattle.varicode_words.specs.declared.Letter.the-variants as letter
 use Rattle.varicode_words.specs.Word.{decodeOf}
 use Rattle.varicode.specs.declared.VaricodeDecoder.{VaricodeDecoder}
 use Rattle.varicode.specs.declared.Fed.{Fed}
 use Rattle.varicode.specs.Held.{reader, Feeds, Joins, Forgets}
-use Rattle.varicode.specs.Reader.{Reader, Heard, nothingHeard, ends, letterAt, heardAfter, joinedTo, readHeard, brought, noRoom, withLetter, bitSaid, bitLeaves}
+use Rattle.varicode.specs.Reader.{Reader, Heard, charRoom, nothingHeard, ends, letterAt, heardAfter, joinedTo, readHeard, brought, noRoom, withLetter, bitSaid, bitLeaves}
+use Rattle.varicode.proofs.Takes.{room-for-one}
 
 abbrev made : Heard → Ring → Reader
 made h q = record { heard = h; chars = q }
@@ -25,9 +25,28 @@ pub feeds-bad : (d : VaricodeDecoder) (b : ℕ) (r : Fed) → 1 < b → doneSaid
 unfolding bitSaid bitLeaves
 feeds-bad d b r h a s = let bad = lt-ltb 1 b h in record { answer = a ∙ rw bad; state = ap reader s ∙ rw bad }
 
--- a bit that ends no word joins it
+-- ---- whether the character fits
+
+no-letter-fits : (q : Ring) → noRoom [] q ≡ false
+unfolding noRoom
+no-letter-fits q = le-ltb charRoom (readAs charRoom q .count + 0) (omega arith)
+
+-- of a queue that was read
+module _ (q p : Ring) (read : q ≡ readAs charRoom p) (c : ℕ) where
+  full-refuses : q .count ≡ charRoom → noRoom (c ∷ []) p ≡ true
+  unfolding noRoom
+  full-refuses full = lt-ltb charRoom (readAs charRoom p .count + 1) (omega (arith, ap (λ (r : Ring). r .count) read))
+
+  free-takes : (q .count ≡ charRoom → ⊥) → noRoom (c ∷ []) p ≡ false
+  unfolding noRoom
+  free-takes free =
+      let room = room-for-one charRoom (lit< tt) q p read free in
+      le-ltb charRoom (readAs charRoom p .count + 1) (omega (arith, room .count, ap (λ (r : Ring). r .count) read))
+
+-- ---- a bit that ends no word joins it
+
 module _ (d : VaricodeDecoder) (b : ℕ) (r : Fed) (bit : b ≤ 1) (goes-on : ends (readHeard (reader d .heard)) b ≡ false) where
-  brings-nothing : brought (reader d) b ≡ letter.Nothing
+  brings-nothing : brought (reader d) b ≡ []
   unfolding brought letterAt
   brings-nothing = rw goes-on
 
@@ -35,46 +54,52 @@ module _ (d : VaricodeDecoder) (b : ℕ) (r : Fed) (bit : b ≤ 1) (goes-on : en
   unfolding bitSaid bitLeaves heardAfter
   feeds-joined a j =
       let good = le-ltb 1 b bit in
+      let free = no-letter-fits (chars (d .chars)) in
       record {
-        answer = a ∙ rw (good, brings-nothing);
-        state = ap₂ made (j .heard) (ap chars (j .chars)) ∙ rw (good, brings-nothing, goes-on);
+        answer = a ∙ rw (good, brings-nothing, free);
+        state = ap₂ made (j .heard) (ap chars (j .chars)) ∙ rw (good, brings-nothing, free, goes-on);
       }
 
--- the second zero of a gap ends it
+-- ---- the second zero of a gap ends it
+
 module _
-    (d : VaricodeDecoder) (r : Fed) (zero-before : d .«prev_zero» ≡ true) (l : Letter)
-    (found : l ≡ decodeOf (d .shift / 2) (d .len % 12 - 1)) where
-  brings : brought (reader d) 0 ≡ l
+    (d : VaricodeDecoder) (r : Fed) (zero-before : d .«prev_zero» ≡ true) (letter : List ℕ)
+    (looked-up : letter ≡ decodeOf (d .shift / 2) (d .len % 12 - 1)) where
+  brings : brought (reader d) 0 ≡ letter
   unfolding brought letterAt
-  brings = rw (zero-before, found)
+  brings = rw (zero-before, looked-up)
 
   forgets : heardAfter (readHeard (reader d .heard)) 0 ≡ nothingHeard
   unfolding heardAfter
   forgets = rw zero-before
 
-  pub feeds-nothing : l ≡ letter.Nothing → doneSaid (r .answer) ≡ accepted tt → Forgets (d .chars) (r .decoder) → Feeds d 0 r
+  feeds-refused : noRoom letter (chars (d .chars)) ≡ true → doneSaid (r .answer) ≡ refused 9 0 → r .decoder ≡ d → Feeds d 0 r
   unfolding bitSaid bitLeaves
-  feeds-nothing e a f =
+  feeds-refused full a s = record { answer = a ∙ rw (brings, full); state = ap reader s ∙ rw (brings, full) }
+
+  feeds-letter :
+      noRoom letter (chars (d .chars)) ≡ false → (q : CharQueue) → chars q ≡ withLetter letter (chars (d .chars)) →
+      doneSaid (r .answer) ≡ accepted tt → Forgets q (r .decoder) → Feeds d 0 r
+  unfolding bitSaid bitLeaves
+  feeds-letter free q behind a f =
       record {
-        answer = a ∙ rw (brings, e);
-        state = ap₂ made (f .heard) (ap chars (f .chars)) ∙ rw (brings, e, forgets);
+        answer = a ∙ rw (brings, free);
+        state = ap₂ made (f .heard) (ap chars (f .chars) ∙ behind) ∙ rw (brings, free, forgets);
       }
 
-  module _ (c : ℕ) (is : l ≡ letter.Byte c) (q : Ring) (read : q ≡ readAs 64 (chars (d .chars))) where
-    pub feeds-full : q .count ≡ 64 → doneSaid (r .answer) ≡ refused 9 0 → r .decoder ≡ d → Feeds d 0 r
-    unfolding bitSaid bitLeaves
-    feeds-full h a s =
-        let full = eq-eqb (readAs 64 (chars (d .chars)) .count) 64 (ap (λ (p : Ring). p .count) (sym read) ∙ h) in
-        record { answer = a ∙ rw (brings, is, full); state = ap reader s ∙ rw (brings, is, full) }
+module _ (d : VaricodeDecoder) (r : Fed) (zero-before : d .«prev_zero» ≡ true) where
+  pub feeds-nothing :
+      [] ≡ decodeOf (d .shift / 2) (d .len % 12 - 1) → doneSaid (r .answer) ≡ accepted tt → Forgets (d .chars) (r .decoder) → Feeds d 0 r
+  feeds-nothing none a f = feeds-letter d r zero-before [] none (no-letter-fits (chars (d .chars))) (d .chars) refl a f
+
+  module _ (c : ℕ) (one : c ∷ [] ≡ decodeOf (d .shift / 2) (d .len % 12 - 1)) (q : Ring) (read : q ≡ readAs charRoom (chars (d .chars))) where
+    pub feeds-full : q .count ≡ charRoom → doneSaid (r .answer) ≡ refused 9 0 → r .decoder ≡ d → Feeds d 0 r
+    feeds-full full a s = feeds-refused d r zero-before (c ∷ []) one (full-refuses q (chars (d .chars)) read c full) a s
 
     pub feeds-byte :
-        (q .count ≡ 64 → ⊥) → (more : CharQueue) → chars more ≡ putOne 64 q c → doneSaid (r .answer) ≡ accepted tt →
+        (q .count ≡ charRoom → ⊥) → (more : CharQueue) → chars more ≡ putOne charRoom q c → doneSaid (r .answer) ≡ accepted tt →
         Forgets more (r .decoder) → Feeds d 0 r
-    unfolding bitSaid bitLeaves
-    feeds-byte h more put a f =
-        let free = ne-eqb (readAs 64 (chars (d .chars)) .count) 64 (λ e. h (ap (λ (p : Ring). p .count) read ∙ e)) in
-        record {
-          answer = a ∙ rw (brings, is, free);
-          state =
-              ap₂ made (f .heard) (ap chars (f .chars) ∙ put ∙ ap (λ (p : Ring). putOne 64 p c) read) ∙ rw (brings, is, free, forgets);
-        }
+    unfolding putAll
+    feeds-byte free more put a f =
+        feeds-letter d r zero-before (c ∷ []) one (free-takes q (chars (d .chars)) read c free) more
+        (put ∙ ap (λ (p : Ring). putOne charRoom p c) read) a f

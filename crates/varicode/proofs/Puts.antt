@@ -17,22 +17,22 @@ use Rattle.refusal.specs.Answer.{Said, accepted, refused, doneSaid}
 use Rattle.varicode_words.specs.Word.{lengthOf, wordOf, bitsOf}
 use Rattle.varicode.specs.declared.VaricodeEncoder.{VaricodeEncoder}
 use Rattle.varicode.specs.declared.Wrote.{Wrote}
-use Rattle.varicode.specs.Writer.{Writer, Call, opening, byte, closing, gap, bitsPut, firstAfter, tooMany, putSaid, putLeaves}
+use Rattle.varicode.specs.Writer.{Writer, Call, opening, byte, closing, gap, bitRoom, bitsPut, firstAfter, tooMany, putSaid, putLeaves}
 use Rattle.varicode.specs.Held.{writer, Puts, Writes, Keeps}
 
 -- a queue as it is read is within its array
-pub read-within : (q p : Ring) → q ≡ readAs 256 p → Room 256 q 0
+pub read-within : (q p : Ring) → q ≡ readAs bitRoom p → Room bitRoom q 0
 read-within q p e = rw e (read-room (lit< tt) p)
 
 -- what fits has room, the gap and then the rest
-module _ (q p : Ring) (zeros n : ℕ) (test : Bool) (read : q ≡ readAs 256 p) (tested : test ≡ leb (q .count + (zeros + n)) 256) (yes : test ≡ true) where
-  enough : q .count + (zeros + n) ≤ 256
+module _ (q p : Ring) (zeros n : ℕ) (test : Bool) (read : q ≡ readAs bitRoom p) (tested : test ≡ leb (q .count + (zeros + n)) bitRoom) (yes : test ≡ true) where
+  enough : q .count + (zeros + n) ≤ bitRoom
   enough = leb-true _ _ (sym tested ∙ yes)
 
-  pub gap-room : Room 256 q zeros
+  pub gap-room : Room bitRoom q zeros
   gap-room = record { head = read-within q p read .head; count = omega (arith, enough) }
 
-  pub rest-room : (mid : Ring) → mid ≡ putAll 256 q (replicate zeros 0) → Room 256 mid n
+  pub rest-room : (mid : Ring) → mid ≡ putAll bitRoom q (replicate zeros 0) → Room bitRoom mid n
   rest-room mid m =
       rw m
       (put-all-room (replicate zeros 0)
@@ -40,29 +40,29 @@ module _ (q p : Ring) (zeros n : ℕ) (test : Bool) (read : q ≡ readAs 256 p) 
 
 -- a call that puts n bits behind as many zeros, of which the code has tested whether they fit
 module _
-    (e : VaricodeEncoder) (c : Call) (r : Wrote) (q : Ring) (zeros n : ℕ) (test : Bool) (read : q ≡ readAs 256 (writer e .pending))
-    (size : length (bitsPut (e .first) c) ≡ zeros + n) (tested : test ≡ leb (q .count + (zeros + n)) 256) where
+    (e : VaricodeEncoder) (c : Call) (r : Wrote) (q : Ring) (zeros n : ℕ) (test : Bool) (read : q ≡ readAs bitRoom (writer e .pending))
+    (size : length (bitsPut (e .first) c) ≡ zeros + n) (tested : test ≡ leb (q .count + (zeros + n)) bitRoom) where
   abbrev put : List ℕ
   put = bitsPut (e .first) c
 
   abbrev held : ℕ
-  held = readAs 256 (writer e .pending) .count
+  held = readAs bitRoom (writer e .pending) .count
 
-  same : leb (q .count + (zeros + n)) 256 ≡ leb (held + length put) 256
+  same : leb (q .count + (zeros + n)) bitRoom ≡ leb (held + length put) bitRoom
   same = rw (read, size)
 
   pub puts-refused : test ≡ false → Keeps e r → Puts e c r
   unfolding putSaid putLeaves tooMany
   puts-refused f k =
-      let full = lt-ltb 256 (held + length put) (leb-false _ _ (sym same ∙ sym tested ∙ f)) in
+      let full = lt-ltb bitRoom (held + length put) (leb-false _ _ (sym same ∙ sym tested ∙ f)) in
       record { answer = k .answer ∙ rw full; state = ap writer (k .state) ∙ rw full }
 
-  pub puts-done : test ≡ true → (new : BitQueue) → bits new ≡ putAll 256 q put → Writes new (firstAfter (e .first) c) r → Puts e c r
+  pub puts-done : test ≡ true → (new : BitQueue) → bits new ≡ putAll bitRoom q put → Writes new (firstAfter (e .first) c) r → Puts e c r
   unfolding putSaid putLeaves tooMany
   puts-done f new behind w =
-      let enough = le-ltb 256 (held + length put) (leb-true _ _ (sym same ∙ sym tested ∙ f)) in
-      let pending : bits (r .encoder .pending) ≡ putAll 256 (readAs 256 (writer e .pending)) put =
-      ap bits (w .pending) ∙ behind ∙ ap (λ (p : Ring). putAll 256 p put) read in
+      let enough = le-ltb bitRoom (held + length put) (leb-true _ _ (sym same ∙ sym tested ∙ f)) in
+      let pending : bits (r .encoder .pending) ≡ putAll bitRoom (readAs bitRoom (writer e .pending)) put =
+      ap bits (w .pending) ∙ behind ∙ ap (λ (p : Ring). putAll bitRoom p put) read in
       record { answer = w .answer ∙ rw enough; state = rw (enough, pending, w .first) }
 
 -- ---- how many bits, and how they are put
@@ -85,17 +85,17 @@ length-byte first b =
     length-append (gap first) (bitsOf (wordOf b)) ∙ ap (λ (k : ℕ). length (gap first) + k) (length-digits (lengthOf (wordOf b)) (wordOf b))
 
 -- a gap of as many zeros as it is long, and then the rest
-spaced : (first : Bool) (q : Ring) (xs : List ℕ) → putAll 256 (putAll 256 q (replicate (length (gap first)) 0)) xs ≡ putAll 256 q (gap first ++ xs)
-spaced first q xs = rw (gap-zeros first) (sym (put-all-append 256 q (gap first) xs))
+spaced : (first : Bool) (q : Ring) (xs : List ℕ) → putAll bitRoom (putAll bitRoom q (replicate (length (gap first)) 0)) xs ≡ putAll bitRoom q (gap first ++ xs)
+spaced first q xs = rw (gap-zeros first) (sym (put-all-append bitRoom q (gap first) xs))
 
 pub closing-put :
-    (first : Bool) (n zeros : ℕ) (q new : Ring) (mid : Ring) → zeros ≡ length (gap first) → mid ≡ putAll 256 q (replicate zeros 0) →
-    new ≡ putAll 256 mid (replicate n 1) → new ≡ putAll 256 q (bitsPut first (closing n))
+    (first : Bool) (n zeros : ℕ) (q new : Ring) (mid : Ring) → zeros ≡ length (gap first) → mid ≡ putAll bitRoom q (replicate zeros 0) →
+    new ≡ putAll bitRoom mid (replicate n 1) → new ≡ putAll bitRoom q (bitsPut first (closing n))
 unfolding bitsPut
 closing-put first n zeros q new mid z m e = e ∙ rw (m, z) (spaced first q (replicate n 1))
 
 pub byte-put :
     (first : Bool) (b zeros word len : ℕ) (q new : Ring) (mid : Ring) → zeros ≡ length (gap first) → word ≡ wordOf b → len ≡ lengthOf (wordOf b) →
-    mid ≡ putAll 256 q (replicate zeros 0) → new ≡ putAll 256 mid (digits len word) → new ≡ putAll 256 q (bitsPut first (byte b))
+    mid ≡ putAll bitRoom q (replicate zeros 0) → new ≡ putAll bitRoom mid (digits len word) → new ≡ putAll bitRoom q (bitsPut first (byte b))
 unfolding bitsPut bitsOf
 byte-put first b zeros word len q new mid z f g m e = e ∙ rw (m, z, f, g) (spaced first q (digits (lengthOf (wordOf b)) (wordOf b)))

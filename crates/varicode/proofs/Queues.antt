@@ -11,22 +11,21 @@ use lib.Dec.{eqb}
 use Rattle.queue.specs.Ring.{Ring, Whole, front, rest, inside}
 use Rattle.queue.proofs.Rings.{read-whole, rest-whole, inside-rest}
 use Rattle.refusal.specs.Answer.{Said, accepted, refuseWhen}
-use Rattle.varicode.specs.declared.Taken.the-variants.{One, Nothing}
 use Rattle.varicode.specs.Take.{taken, left}
 
 module _ (cap : ℕ) (p : Ring) (whole : Whole cap p) where
   -- a test on the count settles what is taken
-  one-means-some : (v : ℕ) (none : Bool) → cond none Nothing (One (front p)) ≡ One v → (none ≡ false) × (front p ≡ v)
+  one-means-some : (v : ℕ) (none : Bool) → cond none [] (front p ∷ []) ≡ v ∷ [] → (none ≡ false) × (front p ≡ v)
   one-means-some v true e = absurd (let z : _≡_ {A = ℕ} 0 1 = cc in omega arith)
   one-means-some v false e = (refl, cc)
 
-  none-means-empty : (none : Bool) → cond none Nothing (One (front p)) ≡ Nothing → none ≡ true
+  none-means-empty : (none : Bool) → cond none [] (front p ∷ []) ≡ [] → none ≡ true
   none-means-empty true e = refl
   none-means-empty false e = absurd (let z : _≡_ {A = ℕ} 0 1 = cc in omega arith)
 
-  taken-read : taken cap p ≡ cond (eqb (p .count) 0) Nothing (One (front p))
+  taken-read : taken cap p ≡ cond (eqb (p .count) 0) [] (front p ∷ [])
   unfolding taken
-  taken-read = ap (λ (q : Ring). cond (eqb (q .count) 0) Nothing (One (front q))) (read-whole whole)
+  taken-read = ap (λ (q : Ring). cond (eqb (q .count) 0) [] (front q ∷ [])) (read-whole whole)
 
   left-read : left cap p ≡ cond (eqb (p .count) 0) p (rest cap p)
   unfolding left
@@ -36,7 +35,7 @@ module _ (cap : ℕ) (p : Ring) (whole : Whole cap p) where
     pub left-whole : Whole cap (left cap p)
     pub order : inside cap p ≡ v ∷ inside cap (left cap p)
 
-  pub handed : (v : ℕ) → taken cap p ≡ One v → Handed v
+  pub handed : (v : ℕ) → taken cap p ≡ v ∷ [] → Handed v
   handed v e =
       let settled = one-means-some v (eqb (p .count) 0) (sym taken-read ∙ e) in
       let some : 0 < p .count =
@@ -47,7 +46,7 @@ module _ (cap : ℕ) (p : Ring) (whole : Whole cap p) where
         order = inside-rest whole some ∙ rw (same, settled .1);
       }
 
-  pub kept : taken cap p ≡ Nothing → left cap p ≡ p
+  pub kept : taken cap p ≡ [] → left cap p ≡ p
   kept e = left-read ∙ ap (λ (b : Bool). cond b p (rest cap p)) (none-means-empty (eqb (p .count) 0) (sym taken-read ∙ e))
 
 -- an element that moved from the front of a list to the end of the one before it

@@ -5,18 +5,14 @@ use mathlib.Core.Path.{_≡_, refl, sym, ap, ap₂, subst, _∙_}
 use Prim.Native.Nat.{ℕ, _+_, _%_, _≤_, _<_}
 use native.Mathlib.Nat.{mod-eq-of-lt, min-le-right}
 use native.Mathlib.Omega.{arith}
-use borrow.Author.Tests.{eqb-false}
-use lib.Arith.{lt-of-le-ne}
+use borrow.Author.Tests.{ltb-false}
 use lib.Dec.{ltb, eqb, lit<}
 use lib.ListN.{length}
-use Rattle.queue.specs.Ring.{Ring, Whole, readAs, putOne, inside}
-use Rattle.queue.proofs.Rings.{empty-whole, inside-empty, read-whole, put-whole, inside-put}
+use Rattle.queue.specs.Ring.{Ring, Whole, readAs, putAll, inside}
+use Rattle.queue.proofs.Rings.{empty-whole, inside-empty, read-whole, put-all-whole, inside-put-all}
 use Rattle.refusal.specs.Answer.{Said, accepted, refuseWhen}
-use Rattle.varicode_words.specs.declared.Letter.{Letter}
-use Rattle.varicode_words.specs.declared.Letter.the-variants as letter
-use Rattle.varicode.specs.declared.Taken.the-variants.{One, Nothing}
 use Rattle.varicode.specs.Take.{taken, left}
-use Rattle.varicode.specs.Reader.{Reader, Heard, nothingHeard, ends, letterAt, heardAfter, joinedTo, lettersOf, lettersFrom, readHeard, freshReader, brought, noRoom, withLetter, bitSaid, bitLeaves, charLeaves}
+use Rattle.varicode.specs.Reader.{Reader, Heard, charRoom, nothingHeard, ends, letterAt, heardAfter, joinedTo, lettersFrom, readHeard, freshReader, brought, noRoom, withLetter, bitSaid, bitLeaves, charLeaves}
 use Rattle.varicode.specs.Runs.{ReaderRun, start, feeds, takes, finds-none}
 use Rattle.varicode.proofs.Queues.{handed, kept, behind, accepted-means}
 
@@ -30,12 +26,12 @@ unfolding heardAll
 heard-snoc h [] b = refl
 heard-snoc h (a ∷ bits) b = heard-snoc (heardAfter h a) bits b
 
-letters-snoc : (h : Heard) (bits : List ℕ) (b : ℕ) → lettersFrom h (bits ++ b ∷ []) ≡ lettersFrom h bits ++ lettersOf (letterAt (heardAll h bits) b)
+letters-snoc : (h : Heard) (bits : List ℕ) (b : ℕ) → lettersFrom h (bits ++ b ∷ []) ≡ lettersFrom h bits ++ letterAt (heardAll h bits) b
 unfolding lettersFrom heardAll
-letters-snoc h [] b = append-nil (lettersOf (letterAt h b))
+letters-snoc h [] b = append-nil (letterAt h b)
 letters-snoc h (a ∷ bits) b =
-    ap (λ (l : List ℕ). lettersOf (letterAt h a) ++ l) (letters-snoc (heardAfter h a) bits b)
-    ∙ sym (append-assoc (lettersOf (letterAt h a)) (lettersFrom (heardAfter h a) bits) (lettersOf (letterAt (heardAll (heardAfter h a) bits) b)))
+    ap (λ (l : List ℕ). letterAt h a ++ l) (letters-snoc (heardAfter h a) bits b)
+    ∙ sym (append-assoc (letterAt h a) (lettersFrom (heardAfter h a) bits) (letterAt (heardAll (heardAfter h a) bits) b))
 
 -- the count of a word's bits stops at 11
 after-short : (h : Heard) (b : ℕ) → heardAfter h b .len ≤ 11
@@ -51,24 +47,28 @@ read-short : (h : Heard) → h .len ≤ 11 → readHeard h ≡ h
 read-short h s = ap (λ (n : ℕ). record { shift = h .shift; len = n; prevZero = h .prevZero }) (mod-eq-of-lt (omega arith))
 
 pub record ReaderHolds (r : Reader) (bits out : List ℕ) : Type 0 where
-  pub whole : Whole 64 (r .chars)
+  pub whole : Whole charRoom (r .chars)
   pub heard : r .heard ≡ heardAll nothingHeard bits
   pub short : r .heard .len ≤ 11
-  pub order : out ++ inside 64 (r .chars) ≡ lettersFrom nothingHeard bits
+  pub order : out ++ inside charRoom (r .chars) ≡ lettersFrom nothingHeard bits
 
 -- a character that has room goes behind the others
-record Gained (l : Letter) (q : Ring) : Type 0 where
-  pub whole : Whole 64 (withLetter l q)
-  pub order : inside 64 (withLetter l q) ≡ inside 64 q ++ lettersOf l
+record Gained (letter : List ℕ) (q : Ring) : Type 0 where
+  pub whole : Whole charRoom (withLetter letter q)
+  pub order : inside charRoom (withLetter letter q) ≡ inside charRoom q ++ letter
 
-gained : (l : Letter) (q : Ring) → Whole 64 q → noRoom l q ≡ false → Gained l q
-gained (letter.Byte c) q w free =
-    let read = read-whole w in
-    let room : q .count < 64 =
-    lt-of-le-ne (w .count) (λ (e : q .count ≡ 64). eqb-false _ _ free (ap (λ (p : Ring). p .count) read ∙ e)) in
-    let same : withLetter (letter.Byte c) q ≡ putOne 64 q c = ap (λ (p : Ring). putOne 64 p c) read in
-    record { whole = subst (Whole 64) (sym same) (put-whole w room c); order = ap (inside 64) same ∙ inside-put w room c }
-gained letter.Nothing q w free = record { whole = w; order = sym (append-nil (inside 64 q)) }
+with-letter : (letter : List ℕ) (q : Ring) → Whole charRoom q → withLetter letter q ≡ putAll charRoom q letter
+unfolding putAll
+with-letter [] q w = refl
+with-letter (c ∷ cs) q w = ap (λ (p : Ring). putAll charRoom p (c ∷ cs)) (read-whole w)
+
+gained : (letter : List ℕ) (q : Ring) → Whole charRoom q → noRoom letter q ≡ false → Gained letter q
+unfolding noRoom
+gained letter q w free =
+    let same = with-letter letter q w in
+    let room : q .count + length letter ≤ charRoom =
+    subst (λ (p : Ring). p .count + length letter ≤ charRoom) (read-whole w) (ltb-false charRoom (readAs charRoom q .count + length letter) free) in
+    record { whole = rw same (put-all-whole w letter room); order = rw same (inside-put-all w letter room) }
 
 abbrev madeReader : Heard → Ring → Reader
 madeReader h q = record { heard = h; chars = q }
@@ -95,36 +95,36 @@ reader-feeds r bits out b h said =
       short = after-short (readHeard (r .heard)) b;
       order =
           ap (λ (k : List ℕ). out ++ k) (more .order)
-          ∙ sym (append-assoc out (inside 64 (r .chars)) (lettersOf l))
-          ∙ ap₂ (λ (k : List ℕ) (g : Heard). k ++ lettersOf (letterAt g b)) (h .order) now
+          ∙ sym (append-assoc out (inside charRoom (r .chars)) l)
+          ∙ ap₂ (λ (k : List ℕ) (g : Heard). k ++ letterAt g b) (h .order) now
           ∙ sym (letters-snoc nothingHeard bits b);
     })
 
 reader-takes :
-    (r : Reader) (bits out : List ℕ) (v : ℕ) → ReaderHolds r bits out → taken 64 (r .chars) ≡ One v →
+    (r : Reader) (bits out : List ℕ) (v : ℕ) → ReaderHolds r bits out → taken charRoom (r .chars) ≡ v ∷ [] →
     ReaderHolds (charLeaves r) bits (out ++ v ∷ [])
 reader-takes r bits out v h e =
-    let given = handed 64 (r .chars) (h .whole) v e in
+    let given = handed charRoom (r .chars) (h .whole) v e in
     record {
       whole = given .left-whole;
       heard = h .heard;
       short = h .short;
-      order = behind out v (inside 64 (left 64 (r .chars))) ∙ ap (λ (l : List ℕ). out ++ l) (sym (given .order)) ∙ h .order;
+      order = behind out v (inside charRoom (left charRoom (r .chars))) ∙ ap (λ (l : List ℕ). out ++ l) (sym (given .order)) ∙ h .order;
     }
 
 reader-finds-none :
-    (r : Reader) (bits out : List ℕ) → ReaderHolds r bits out → taken 64 (r .chars) ≡ Nothing → ReaderHolds (charLeaves r) bits out
+    (r : Reader) (bits out : List ℕ) → ReaderHolds r bits out → taken charRoom (r .chars) ≡ [] → ReaderHolds (charLeaves r) bits out
 reader-finds-none r bits out h e =
-    subst (λ (q : Ring). ReaderHolds (madeReader (r .heard) q) bits out) (sym (kept 64 (r .chars) (h .whole) e)) h
+    subst (λ (q : Ring). ReaderHolds (madeReader (r .heard) q) bits out) (sym (kept charRoom (r .chars) (h .whole) e)) h
 
 pub reader-holds : {r : Reader} {bits out : List ℕ} → ReaderRun r bits out → ReaderHolds r bits out
 unfolding freshReader lettersFrom heardAll
-reader-holds start = record { whole = empty-whole (lit< tt); heard = refl; short = omega arith; order = inside-empty 64 }
+reader-holds start = record { whole = empty-whole (lit< tt); heard = refl; short = omega arith; order = inside-empty charRoom }
 reader-holds (feeds {r} {bits} {out} run b said) = reader-feeds r bits out b (reader-holds run) said
 reader-holds (takes {r} {bits} {out} run v e) = reader-takes r bits out v (reader-holds run) e
 reader-holds (finds-none {r} {bits} {out} run e) = reader-finds-none r bits out (reader-holds run) e
 
 -- what was taken out, and what is inside, are the characters of the bits, in order
 pub reader-hands-out :
-    {r : Reader} {bits out : List ℕ} → ReaderRun r bits out → out ++ inside 64 (r .chars) ≡ lettersFrom nothingHeard bits
+    {r : Reader} {bits out : List ℕ} → ReaderRun r bits out → out ++ inside charRoom (r .chars) ≡ lettersFrom nothingHeard bits
 reader-hands-out run = reader-holds run .order

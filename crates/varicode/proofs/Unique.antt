@@ -6,13 +6,14 @@ use Rattle.refusal.specs.declared.Put.{Put}
 use Rattle.varicode.specs.declared.VaricodeEncoder.{VaricodeEncoder}
 use Rattle.varicode.specs.declared.VaricodeDecoder.{VaricodeDecoder}
 use Rattle.varicode.specs.declared.Taken.{Taken}
+use Rattle.varicode.specs.declared.Taken.the-variants as taking
 use Rattle.varicode.specs.declared.Wrote.{Wrote}
 use Rattle.varicode.specs.declared.NextBit.{NextBit}
 use Rattle.varicode.specs.declared.Fed.{Fed}
 use Rattle.varicode.specs.declared.NextChar.{NextChar}
 use Rattle.varicode.specs.Writer.{Writer, Call}
 use Rattle.varicode.specs.Reader.{Reader}
-use Rattle.varicode.specs.Held.{writer, reader, Puts}
+use Rattle.varicode.specs.Held.{writer, reader, takenSaid, Puts}
 use Rattle.varicode.proofs.VaricodeEncoder.new.Reads as new-encoder
 use Rattle.varicode.proofs.VaricodeEncoder.push_preamble.Reads as push-preamble
 use Rattle.varicode.proofs.VaricodeEncoder.push_byte.Reads as push-byte
@@ -21,6 +22,13 @@ use Rattle.varicode.proofs.VaricodeEncoder.next_bit.Reads as next-bit
 use Rattle.varicode.proofs.VaricodeDecoder.new.Reads as new-decoder
 use Rattle.varicode.proofs.VaricodeDecoder.push_bit.Reads as push-bit
 use Rattle.varicode.proofs.VaricodeDecoder.pop_char.Reads as pop-char
+
+-- an answer is fixed by what is said of it
+pub taken-told : (a b : Taken) → takenSaid a ≡ takenSaid b → a ≡ b
+taken-told (taking.One u) (taking.One v) e = cc
+taken-told (taking.One u) taking.Nothing e = cc
+taken-told taking.Nothing (taking.One v) e = cc
+taken-told taking.Nothing taking.Nothing e = cc
 
 -- ---- the writer
 
@@ -58,7 +66,7 @@ nextBit a e = record { answer = a; encoder = e }
 
 pub next-bit-determined :
     (κs : _) (given : _) (r r' : NextBit) (left left' : _) → next-bit.Post κs given r left → next-bit.Post κs given r' left' → r ≡ r'
-next-bit-determined κs given r r' left left' p q = ap₂ nextBit (p .answer ∙ sym (q .answer)) (writer-told (r .encoder) (r' .encoder) (p .state ∙ sym (q .state)))
+next-bit-determined κs given r r' left left' p q = ap₂ nextBit (taken-told (r .answer) (r' .answer) (p .answer ∙ sym (q .answer))) (writer-told (r .encoder) (r' .encoder) (p .state ∙ sym (q .state)))
 
 -- ---- the reader
 
@@ -91,4 +99,4 @@ nextChar a d = record { answer = a; decoder = d }
 
 pub pop-char-determined :
     (κs : _) (given : _) (r r' : NextChar) (left left' : _) → pop-char.Post κs given r left → pop-char.Post κs given r' left' → r ≡ r'
-pop-char-determined κs given r r' left left' p q = ap₂ nextChar (p .answer ∙ sym (q .answer)) (reader-told (r .decoder) (r' .decoder) (p .state ∙ sym (q .state)))
+pop-char-determined κs given r r' left left' p q = ap₂ nextChar (taken-told (r .answer) (r' .answer) (p .answer ∙ sym (q .answer))) (reader-told (r .decoder) (r' .decoder) (p .state ∙ sym (q .state)))

@@ -12,9 +12,8 @@ use lib.ListN.{length, replicate, length-append}
 use lib.Pow.{pow-mono}
 use Rattle.binary.specs.Digits.{value}
 use Rattle.binary.proofs.Values.{Bits, none, more, value-below, value-snoc}
-use Rattle.varicode_words.specs.declared.Letter.{Letter}
 use Rattle.varicode_words.specs.Word.{lengthOf, found, decodeOf}
-use Rattle.varicode.specs.Reader.{Heard, nothingHeard, letterAt, heardAfter, lettersOf, lettersFrom}
+use Rattle.varicode.specs.Reader.{Heard, nothingHeard, letterAt, heardAfter, lettersFrom}
 
 -- the rest of a word, after a zero or not: no 00, and its last bit is 1
 pub data Rest : Bool → List ℕ → Type 0 where
@@ -80,7 +79,7 @@ rest-joins (one-bit {z} {bs} r) part tail are short =
 -- the two zeros of a gap end the word that has passed, and it is looked up
 gap-ends :
     (word tail : List ℕ) → Bits word → length word ≤ 10 →
-    lettersFrom (heardOf word false) (0 ∷ (0 ∷ tail)) ≡ lettersOf (decodeOf (value word) (length word)) ++ lettersFrom nothingHeard tail
+    lettersFrom (heardOf word false) (0 ∷ (0 ∷ tail)) ≡ decodeOf (value word) (length word) ++ lettersFrom nothingHeard tail
 unfolding lettersFrom letterAt heardAfter
 gap-ends word tail are short =
     let half : value (word ++ 0 ∷ []) / 2 ≡ value word = omega (arith, value-snoc word 0) in
@@ -89,7 +88,7 @@ gap-ends word tail are short =
 
 pub word-read :
     (word tail : List ℕ) → Rest false word → Bits word → length word ≤ 10 →
-    lettersFrom nothingHeard (word ++ (0 ∷ (0 ∷ tail))) ≡ lettersOf (decodeOf (value word) (length word)) ++ lettersFrom nothingHeard tail
+    lettersFrom nothingHeard (word ++ (0 ∷ (0 ∷ tail))) ≡ decodeOf (value word) (length word) ++ lettersFrom nothingHeard tail
 unfolding value
 word-read word tail r are short = rest-joins r [] (0 ∷ (0 ∷ tail)) none (omega arith) ∙ gap-ends word tail are short
 

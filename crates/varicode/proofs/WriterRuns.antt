@@ -9,9 +9,8 @@ use lib.ListN.{length}
 use Rattle.queue.specs.Ring.{Ring, Whole, readAs, putAll, inside}
 use Rattle.queue.proofs.Rings.{empty-whole, inside-empty, read-whole, put-all-whole, inside-put-all}
 use Rattle.refusal.specs.Answer.{accepted}
-use Rattle.varicode.specs.declared.Taken.the-variants.{One, Nothing}
 use Rattle.varicode.specs.Take.{taken, left}
-use Rattle.varicode.specs.Writer.{Writer, Call, bitsPut, firstAfter, streamFrom, freshWriter, tooMany, putSaid, putLeaves, nextLeaves}
+use Rattle.varicode.specs.Writer.{Writer, Call, bitRoom, bitsPut, firstAfter, streamFrom, freshWriter, tooMany, putSaid, putLeaves, nextLeaves}
 use Rattle.varicode.specs.Runs.{WriterRun, start, puts, takes, finds-none}
 use Rattle.varicode.proofs.Queues.{handed, kept, behind, accepted-means}
 
@@ -36,9 +35,9 @@ stream-snoc first (d ∷ calls) c =
 
 -- what holds of a writer that a run ends in
 pub record WriterHolds (w : Writer) (calls : List Call) (out : List ℕ) : Type 0 where
-  pub whole : Whole 256 (w .pending)
+  pub whole : Whole bitRoom (w .pending)
   pub flag : w .first ≡ firstAll true calls
-  pub order : out ++ inside 256 (w .pending) ≡ streamFrom true calls
+  pub order : out ++ inside bitRoom (w .pending) ≡ streamFrom true calls
 
 abbrev madeWriter : Ring → Bool → Writer
 madeWriter q b = record { pending = q; first = b }
@@ -50,47 +49,47 @@ unfolding putSaid putLeaves tooMany
 writer-puts w calls out c h said =
     let bits = bitsPut (w .first) c in
     let read = read-whole (h .whole) in
-    let free = accepted-means 9 (ltb 256 (readAs 256 (w .pending) .count + length bits)) (accepted tt) said in
-    let room : w .pending .count + length bits ≤ 256 =
-    subst (λ (q : Ring). q .count + length bits ≤ 256) read (ltb-false 256 (readAs 256 (w .pending) .count + length bits) free) in
-    let same : putLeaves w c ≡ madeWriter (putAll 256 (w .pending) bits) (firstAfter (w .first) c) =
-    rw free (ap (λ (q : Ring). madeWriter (putAll 256 q bits) (firstAfter (w .first) c)) read) in
+    let free = accepted-means 9 (ltb bitRoom (readAs bitRoom (w .pending) .count + length bits)) (accepted tt) said in
+    let room : w .pending .count + length bits ≤ bitRoom =
+    subst (λ (q : Ring). q .count + length bits ≤ bitRoom) read (ltb-false bitRoom (readAs bitRoom (w .pending) .count + length bits) free) in
+    let same : putLeaves w c ≡ madeWriter (putAll bitRoom (w .pending) bits) (firstAfter (w .first) c) =
+    rw free (ap (λ (q : Ring). madeWriter (putAll bitRoom q bits) (firstAfter (w .first) c)) read) in
     rw same
     (record {
       whole = put-all-whole (h .whole) bits room;
       flag = ap (λ (b : Bool). firstAfter b c) (h .flag) ∙ sym (first-snoc true calls c);
       order =
           ap (λ (l : List ℕ). out ++ l) (inside-put-all (h .whole) bits room)
-          ∙ sym (append-assoc out (inside 256 (w .pending)) bits)
+          ∙ sym (append-assoc out (inside bitRoom (w .pending)) bits)
           ∙ ap₂ (λ (l : List ℕ) (b : Bool). l ++ bitsPut b c) (h .order) (h .flag)
           ∙ sym (stream-snoc true calls c);
     })
 
 writer-takes :
-    (w : Writer) (calls : List Call) (out : List ℕ) (v : ℕ) → WriterHolds w calls out → taken 256 (w .pending) ≡ One v →
+    (w : Writer) (calls : List Call) (out : List ℕ) (v : ℕ) → WriterHolds w calls out → taken bitRoom (w .pending) ≡ v ∷ [] →
     WriterHolds (nextLeaves w) calls (out ++ v ∷ [])
 writer-takes w calls out v h e =
-    let given = handed 256 (w .pending) (h .whole) v e in
+    let given = handed bitRoom (w .pending) (h .whole) v e in
     record {
       whole = given .left-whole;
       flag = h .flag;
-      order = behind out v (inside 256 (left 256 (w .pending))) ∙ ap (λ (l : List ℕ). out ++ l) (sym (given .order)) ∙ h .order;
+      order = behind out v (inside bitRoom (left bitRoom (w .pending))) ∙ ap (λ (l : List ℕ). out ++ l) (sym (given .order)) ∙ h .order;
     }
 
 writer-finds-none :
-    (w : Writer) (calls : List Call) (out : List ℕ) → WriterHolds w calls out → taken 256 (w .pending) ≡ Nothing →
+    (w : Writer) (calls : List Call) (out : List ℕ) → WriterHolds w calls out → taken bitRoom (w .pending) ≡ [] →
     WriterHolds (nextLeaves w) calls out
 writer-finds-none w calls out h e =
-    subst (λ (q : Ring). WriterHolds (madeWriter q (w .first)) calls out) (sym (kept 256 (w .pending) (h .whole) e)) h
+    subst (λ (q : Ring). WriterHolds (madeWriter q (w .first)) calls out) (sym (kept bitRoom (w .pending) (h .whole) e)) h
 
 pub writer-holds : {w : Writer} {calls : List Call} {out : List ℕ} → WriterRun w calls out → WriterHolds w calls out
 unfolding freshWriter streamFrom firstAll
-writer-holds start = record { whole = empty-whole (lit< tt); flag = refl; order = inside-empty 256 }
+writer-holds start = record { whole = empty-whole (lit< tt); flag = refl; order = inside-empty bitRoom }
 writer-holds (puts {w} {calls} {out} r c said) = writer-puts w calls out c (writer-holds r) said
 writer-holds (takes {w} {calls} {out} r v e) = writer-takes w calls out v (writer-holds r) e
 writer-holds (finds-none {w} {calls} {out} r e) = writer-finds-none w calls out (writer-holds r) e
 
 -- what was taken out, and what is inside, are the bits of the calls, in order
 pub writer-hands-out :
-    {w : Writer} {calls : List Call} {out : List ℕ} → WriterRun w calls out → out ++ inside 256 (w .pending) ≡ streamFrom true calls
+    {w : Writer} {calls : List Call} {out : List ℕ} → WriterRun w calls out → out ++ inside bitRoom (w .pending) ≡ streamFrom true calls
 writer-hands-out r = writer-holds r .order

@@ -1,5 +1,6 @@
 -- The writer and the reader as the code holds them, and what its calls ensure. Definitions only.
 use mathlib.Core.Bool.{Bool}
+use mathlib.Core.List.{List, [], _∷_}
 use mathlib.Core.Path.{_≡_}
 use Prim.Native.Nat.{ℕ}
 use Rattle.queue.specs.declared.BitQueue.{BitQueue}
@@ -8,6 +9,8 @@ use Rattle.queue.specs.Held.{bits, chars}
 use Rattle.refusal.specs.Answer.{accepted, refused, doneSaid}
 use Rattle.varicode.specs.declared.VaricodeEncoder.{VaricodeEncoder}
 use Rattle.varicode.specs.declared.VaricodeDecoder.{VaricodeDecoder}
+use Rattle.varicode.specs.declared.Taken.{Taken}
+use Rattle.varicode.specs.declared.Taken.the-variants as taking
 use Rattle.varicode.specs.declared.Wrote.{Wrote}
 use Rattle.varicode.specs.declared.NextBit.{NextBit}
 use Rattle.varicode.specs.declared.Fed.{Fed}
@@ -21,6 +24,11 @@ writer e = record { pending = bits (e .pending); first = e .first }
 
 abbrev pub reader : VaricodeDecoder → Reader
 reader d = record { heard = record { shift = d .shift; len = d .len; prevZero = d .«prev_zero» }; chars = chars (d .chars) }
+
+-- the bit or the character that was taken out, if there was one
+abbrev pub takenSaid : Taken → List ℕ
+takenSaid (taking.One v) = v ∷ []
+takenSaid taking.Nothing = []
 
 -- what a call that puts bits answers and leaves
 pub record Puts (e : VaricodeEncoder) (c : Call) (r : Wrote) : Type 0 where
@@ -38,7 +46,7 @@ pub record Keeps (e : VaricodeEncoder) (r : Wrote) : Type 0 where
   pub state : r .encoder ≡ e
 
 pub record GivesBit (e : VaricodeEncoder) (r : NextBit) : Type 0 where
-  pub answer : r .answer ≡ taken bitRoom (writer e .pending)
+  pub answer : takenSaid (r .answer) ≡ taken bitRoom (writer e .pending)
   pub state : writer (r .encoder) ≡ nextLeaves (writer e)
 
 pub record Feeds (d : VaricodeDecoder) (b : ℕ) (r : Fed) : Type 0 where
@@ -46,7 +54,7 @@ pub record Feeds (d : VaricodeDecoder) (b : ℕ) (r : Fed) : Type 0 where
   pub state : reader (r .decoder) ≡ bitLeaves (reader d) b
 
 pub record GivesChar (d : VaricodeDecoder) (r : NextChar) : Type 0 where
-  pub answer : r .answer ≡ taken charRoom (reader d .chars)
+  pub answer : takenSaid (r .answer) ≡ taken charRoom (reader d .chars)
   pub state : reader (r .decoder) ≡ charLeaves (reader d)
 
 -- a bit that joins the word, and the word forgotten: what `push_bit` is made of

@@ -3,10 +3,9 @@ use mathlib.Core.Bool.{Bool, true, false, cond}
 use mathlib.Core.List.{List, [], _∷_, _++_}
 use Prim.Native.Nat.{ℕ, _+_, _-_, _*_, _/_, _%_, min}
 use lib.Dec.{ltb, eqb}
+use lib.ListN.{length}
 use Rattle.refusal.specs.Answer.{Said, accepted, refuseWhen}
-use Rattle.queue.specs.Ring.{Ring, empty, readAs, putOne}
-use Rattle.varicode_words.specs.declared.Letter.{Letter}
-use Rattle.varicode_words.specs.declared.Letter.the-variants as letter
+use Rattle.queue.specs.Ring.{Ring, empty, readAs, putAll}
 use Rattle.varicode_words.specs.Word.{decodeOf}
 use Rattle.varicode.specs.Take.{left}
 
@@ -24,8 +23,8 @@ abbrev pub ends : Heard → ℕ → Bool
 ends h b = cond (eqb b 0) (h .prevZero) false
 
 -- The word's trailing zero is dropped, and it is looked up by bits and length.
-unfoldable pub letterAt : Heard → ℕ → Letter
-letterAt h b = cond (ends h b) (decodeOf (h .shift / 2) (h .len - 1)) letter.Nothing
+unfoldable pub letterAt : Heard → ℕ → List ℕ
+letterAt h b = cond (ends h b) (decodeOf (h .shift / 2) (h .len - 1)) []
 
 -- Otherwise the bit joins a 16-bit shift and the length counts up to 11.
 abbrev pub joinedTo : Heard → ℕ → Heard
@@ -36,14 +35,10 @@ unfoldable pub heardAfter : Heard → ℕ → Heard
 heardAfter h b = cond (ends h b) nothingHeard (joinedTo h b)
 
 -- the characters of several bits, one after the other
-abbrev pub lettersOf : Letter → List ℕ
-lettersOf (letter.Byte c) = c ∷ []
-lettersOf letter.Nothing = []
-
 unfoldable pub lettersFrom : Heard → List ℕ → List ℕ
 unfolding letterAt heardAfter
 lettersFrom h [] = []
-lettersFrom h (b ∷ bs) = lettersOf (letterAt h b) ++ lettersFrom (heardAfter h b) bs
+lettersFrom h (b ∷ bs) = letterAt h b ++ lettersFrom (heardAfter h b) bs
 
 -- ---- the queue
 
@@ -61,28 +56,28 @@ freshReader = record { heard = nothingHeard; chars = empty charRoom }
 abbrev pub readHeard : Heard → Heard
 readHeard h = record { shift = h .shift; len = h .len % 12; prevZero = h .prevZero }
 
--- the character that a bit brings
-unfoldable pub brought : Reader → ℕ → Letter
+-- the character that a bit brings, if it brings one
+unfoldable pub brought : Reader → ℕ → List ℕ
 unfolding letterAt
 brought r b = letterAt (readHeard (r .heard)) b
 
 -- the character doesn't fit
-abbrev pub noRoom : Letter → Ring → Bool
-noRoom (letter.Byte c) q = eqb (readAs charRoom q .count) charRoom
-noRoom letter.Nothing q = false
+unfoldable pub noRoom : List ℕ → Ring → Bool
+noRoom letter q = ltb charRoom (readAs charRoom q .count + length letter)
 
 -- refusal 8 exactly when the bit is above 1, and then 9 exactly when the character doesn't fit
 unfoldable pub bitSaid : Reader → ℕ → Said Unit
-unfolding brought
+unfolding brought noRoom
 bitSaid r b = refuseWhen (ltb 1 b) 8 (refuseWhen (noRoom (brought r b) (r .chars)) 9 (accepted tt))
 
-abbrev pub withLetter : Letter → Ring → Ring
-withLetter (letter.Byte c) q = putOne charRoom (readAs charRoom q) c
-withLetter letter.Nothing q = q
+-- the queue with the character behind the others; as it came where there is none
+abbrev pub withLetter : List ℕ → Ring → Ring
+withLetter [] q = q
+withLetter (c ∷ cs) q = putAll charRoom (readAs charRoom q) (c ∷ cs)
 
 -- the reader after a bit; as it came where the call is refused
 unfoldable pub bitLeaves : Reader → ℕ → Reader
-unfolding brought heardAfter
+unfolding brought noRoom heardAfter
 bitLeaves r b =
     cond (ltb 1 b) r (cond (noRoom (brought r b) (r .chars)) r
     (record { heard = heardAfter (readHeard (r .heard)) b; chars = withLetter (brought r b) (r .chars) }))

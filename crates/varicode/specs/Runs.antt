@@ -5,7 +5,6 @@ use mathlib.Core.Path.{_≡_}
 use Prim.Native.Nat.{ℕ, _*_, _<_}
 use Rattle.queue.specs.Ring.{inside}
 use Rattle.refusal.specs.Answer.{accepted}
-use Rattle.varicode.specs.declared.Taken.the-variants.{One, Nothing}
 use Rattle.varicode.specs.Take.{taken}
 use Rattle.varicode.specs.Writer.{Writer, Call, opening, byte, closing, bitRoom, freshWriter, putSaid, putLeaves, nextLeaves}
 use Rattle.varicode.specs.Reader.{Reader, charRoom, freshReader, bitSaid, bitLeaves, charLeaves}
@@ -17,10 +16,10 @@ pub data WriterRun : Writer → List Call → List ℕ → Type 0 where
       {w : Writer} {calls : List Call} {out : List ℕ} → WriterRun w calls out → (c : Call) → putSaid w c ≡ accepted tt →
       WriterRun (putLeaves w c) (calls ++ c ∷ []) out
   takes :
-      {w : Writer} {calls : List Call} {out : List ℕ} → WriterRun w calls out → (v : ℕ) → taken bitRoom (w .pending) ≡ One v →
+      {w : Writer} {calls : List Call} {out : List ℕ} → WriterRun w calls out → (v : ℕ) → taken bitRoom (w .pending) ≡ v ∷ [] →
       WriterRun (nextLeaves w) calls (out ++ v ∷ [])
   finds-none :
-      {w : Writer} {calls : List Call} {out : List ℕ} → WriterRun w calls out → taken bitRoom (w .pending) ≡ Nothing →
+      {w : Writer} {calls : List Call} {out : List ℕ} → WriterRun w calls out → taken bitRoom (w .pending) ≡ [] →
       WriterRun (nextLeaves w) calls out
 
 -- the reader that the run ends in, the bits that were pushed, and the characters that were taken out, each in order
@@ -30,10 +29,10 @@ pub data ReaderRun : Reader → List ℕ → List ℕ → Type 0 where
       {r : Reader} {bits out : List ℕ} → ReaderRun r bits out → (b : ℕ) → bitSaid r b ≡ accepted tt →
       ReaderRun (bitLeaves r b) (bits ++ b ∷ []) out
   takes :
-      {r : Reader} {bits out : List ℕ} → ReaderRun r bits out → (v : ℕ) → taken charRoom (r .chars) ≡ One v →
+      {r : Reader} {bits out : List ℕ} → ReaderRun r bits out → (v : ℕ) → taken charRoom (r .chars) ≡ v ∷ [] →
       ReaderRun (charLeaves r) bits (out ++ v ∷ [])
   finds-none :
-      {r : Reader} {bits out : List ℕ} → ReaderRun r bits out → taken charRoom (r .chars) ≡ Nothing →
+      {r : Reader} {bits out : List ℕ} → ReaderRun r bits out → taken charRoom (r .chars) ≡ [] →
       ReaderRun (charLeaves r) bits out
 
 -- bytes below 128

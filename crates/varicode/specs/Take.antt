@@ -1,14 +1,13 @@
 -- Taking out of a queue of `cap` elements. Definitions only.
 use mathlib.Core.Bool.{cond}
+use mathlib.Core.List.{List, [], _∷_}
 use Prim.Native.Nat.{ℕ}
 use lib.Dec.{eqb}
 use Rattle.queue.specs.Ring.{Ring, readAs, front, rest}
-use Rattle.varicode.specs.declared.Taken.{Taken}
-use Rattle.varicode.specs.declared.Taken.the-variants.{One, Nothing}
 
 -- its front, or nothing where it is empty
-unfoldable pub taken : ℕ → Ring → Taken
-taken cap q = cond (eqb (readAs cap q .count) 0) Nothing (One (front (readAs cap q)))
+unfoldable pub taken : ℕ → Ring → List ℕ
+taken cap q = cond (eqb (readAs cap q .count) 0) [] (front (readAs cap q) ∷ [])
 
 -- the queue without it; as it came where it is empty
 unfoldable pub left : ℕ → Ring → Ring

@@ -5,7 +5,7 @@ ghost use mathlib.Core.Bool.{true};
 ghost use Prim.Native.Nat.{_+_, _-_, min, _≤_};
 ghost use lib.Dec.{leb};
 ghost use lib.ListN.{length};
-ghost use Rattle.varicode.specs.Writer.{opening, byte, closing, gap, freshWriter};
+ghost use Rattle.varicode.specs.Writer.{opening, byte, closing, gap, bitRoom, freshWriter};
 ghost use Rattle.varicode.specs.Reader.{freshReader};
 ghost use Rattle.varicode.specs.Held.{writer, reader, Puts, Writes, Keeps, GivesBit, Feeds, Joins, Forgets, GivesChar};
 use queue::BitQueue;
@@ -46,8 +46,8 @@ fn gap_len(first: bool) -> usize
 
 // Whether a gap and n bits more fit behind as many as there are. No sum is made that could wrap.
 fn fits(count: usize, zeros: usize, n: usize) -> bool
-    requires { ⌜ count ≤ 256 ⌝ }
-    ensures { λ r. ⌜ r ≡ leb (count + (zeros + n)) 256 ⌝ }
+    requires { ⌜ count ≤ bitRoom ⌝ }
+    ensures { λ r. ⌜ r ≡ leb (count + (zeros + n)) bitRoom ⌝ }
 {
     let room = queue::BITS - count;
     if room < zeros {

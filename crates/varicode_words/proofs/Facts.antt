@@ -1,6 +1,6 @@
 -- What holds of Martinez's table, each by one test over its 128 words. Assumes nothing.
 use mathlib.Core.Bool.{Bool, true, false, _&&_}
-use mathlib.Core.List.{map}
+use mathlib.Core.List.{[], _∷_, map}
 use mathlib.Core.Path.{_≡_, refl, sym, ap, _∙_}
 use Prim.Native.Nat.{ℕ, suc, _-_, _%_, _^_, _<_, _≤_}
 use native.Mathlib.Omega.{arith}
@@ -8,12 +8,10 @@ use borrow.Author.Tests.{lt-ltb, le-ltb, ltb-true, ltb-false}
 use lib.Dec.{T, ltb, leb, eqb, ltb→lt, leb→le, eqb→eq, lit<}
 use lib.ListN.{length, getD, List·getD-map}
 use Rattle.binary.proofs.Values.{length-digits}
-use Rattle.varicode_words.specs.declared.Letter.{Letter}
-use Rattle.varicode_words.specs.declared.Letter.the-variants.{Byte, Nothing}
 use Rattle.varicode_words.specs.Table.{words}
 use Rattle.varicode_words.specs.Word.{lengthOf, wordOf, bitsOf, sound, decodeOf}
 use Rattle.varicode_words.proofs.Sound.{Sound, sound-rule, sound-begins, sound-ends, sound-no-gap}
-use Rattle.varicode_words.proofs.Table.{both, passes, passes-at}
+use Rattle.varicode_words.proofs.Table.{both, same, same-equal, passes, passes-at}
 
 -- ---- bytes and entries
 
@@ -99,21 +97,12 @@ word-ends b h = (
 
 -- ---- back
 
-is : ℕ → Letter → Bool
-is b (Byte k) = eqb k b
-is b Nothing = false
-
-is-byte : (b : ℕ) (l : Letter) → T (is b l) → l ≡ Byte b
-unfolding is
-is-byte b (Byte k) t = ap Byte (eqb→eq k b t)
-is-byte b Nothing t = absurd t
-
 decodes : ℕ → ℕ → Bool
-decodes b w = is b (decodeOf w (lengthOf w))
+decodes b w = same (decodeOf w (lengthOf w)) (b ∷ [])
 
-pub word-decodes : (b : ℕ) → b < 128 → decodeOf (wordOf b) (lengthOf (wordOf b)) ≡ Byte b
-unfolding decodes is decodeOf lengthOf
-word-decodes b h = is-byte b (decodeOf (wordOf b) (lengthOf (wordOf b))) (passed decodes tt b h)
+pub word-decodes : (b : ℕ) → b < 128 → decodeOf (wordOf b) (lengthOf (wordOf b)) ≡ b ∷ []
+unfolding decodes decodeOf lengthOf
+word-decodes b h = same-equal (decodeOf (wordOf b) (lengthOf (wordOf b))) (b ∷ []) (passed decodes tt b h)
 
 pub words-apart : (a b : ℕ) → a < 128 → b < 128 → wordOf a ≡ wordOf b → a ≡ b
 words-apart a b g h e = cc (word-decodes a g, word-decodes b h)

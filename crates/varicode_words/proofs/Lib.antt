@@ -1,4 +1,4 @@
--- Table: a rule of a table by one test. Search: one step of looking a word up. Sound: words that begin and end with 1 and hold no 00.
+-- Table: tests of lists and tables. Search: one step of looking a word up. Sound: words that begin and end with 1 and hold no 00.
 -- Facts: what holds of Martinez's table. Unique: each contract allows one outcome at most.
 pub mod Table
 pub mod Search

@@ -1,16 +1,31 @@
--- A rule of a table, proved at all of its entries by one test that antt computes. Over any list and test. Assumes nothing.
+-- Tests that antt computes: that two lists are equal, and that a rule holds at all entries of a table. Over any list and test. Assumes nothing.
 use mathlib.Core.Bool.{Bool, true, false, _&&_}
 use mathlib.Core.List.{List, [], _∷_}
-use mathlib.Core.Path.{subst}
+use mathlib.Core.Path.{_≡_, refl, ap₂, subst}
 use Prim.Native.Nat.{ℕ, zero, suc, _+_, _<_}
 use native.Mathlib.Nat.{zero-add, le-of-suc-le-suc, not-suc-le-zero}
 use native.Mathlib.Omega.{arith}
-use lib.Dec.{T}
+use lib.Dec.{T, eqb, eqb→eq}
 use lib.ListN.{length, getD}
 
 pub both : (a b : Bool) → T (a && b) → T a × T b
 both true b t = (tt, t)
 both false b t = absurd t
+
+-- two lists of numbers, entry by entry; lists that pass are equal
+abbrev pub same : List ℕ → List ℕ → Bool
+same [] [] = true
+same [] (y ∷ ys) = false
+same (x ∷ xs) [] = false
+same (x ∷ xs) (y ∷ ys) = eqb x y && same xs ys
+
+pub same-equal : (xs ys : List ℕ) → T (same xs ys) → xs ≡ ys
+same-equal [] [] t = refl
+same-equal [] (y ∷ ys) t = absurd t
+same-equal (x ∷ xs) [] t = absurd t
+same-equal (x ∷ xs) (y ∷ ys) t =
+    let passed = both (eqb x y) (same xs ys) t in
+    ap₂ (λ (n : ℕ) (ns : List ℕ). n ∷ ns) (eqb→eq x y (passed .0)) (same-equal xs ys (passed .1))
 
 module _ {A : Type 0} where
   -- the test passes at each entry and its place, counted from i

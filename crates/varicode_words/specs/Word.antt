@@ -9,7 +9,7 @@ use lib.ListN.{getD}
 use Rattle.binary.specs.Digits.{digits}
 use Rattle.varicode_words.specs.declared.Word.{Word}
 use Rattle.varicode_words.specs.declared.Letter.{Letter}
-use Rattle.varicode_words.specs.declared.Letter.the-variants.{Byte, Nothing}
+use Rattle.varicode_words.specs.declared.Letter.the-variants as letter
 use Rattle.varicode_words.specs.Table.{words}
 
 -- a word begins with 1, so its length is that of the number in binary
@@ -37,13 +37,18 @@ pub record Written (byte : ℕ) (r : Word) : Type 0 where
   pub bits : r .bits ≡ wordOf byte
   pub len : r .len ≡ lengthOf (wordOf byte)
 
--- the first word of a list, counted from k, that has these bits and this length
-unfoldable pub found : List ℕ → ℕ → ℕ → ℕ → Letter
+-- the byte that `varicode_decode` answers, if there is one
+abbrev pub letterSaid : Letter → List ℕ
+letterSaid (letter.Byte b) = b ∷ []
+letterSaid letter.Nothing = []
+
+-- the place of the first word of a list, counted from k, that has these bits and this length; none where there is no such word
+unfoldable pub found : List ℕ → ℕ → ℕ → ℕ → List ℕ
 unfolding lengthOf
-found [] k bits len = Nothing
-found (w ∷ ws) k bits len = cond (eqb w bits) (cond (eqb (lengthOf w) len) (Byte k) (found ws (suc k) bits len)) (found ws (suc k) bits len)
+found [] k bits len = []
+found (w ∷ ws) k bits len = cond (eqb w bits && eqb (lengthOf w) len) (k ∷ []) (found ws (suc k) bits len)
 
 -- the byte of a word
-unfoldable pub decodeOf : ℕ → ℕ → Letter
+unfoldable pub decodeOf : ℕ → ℕ → List ℕ
 unfolding found
 decodeOf bits len = found words 0 bits len

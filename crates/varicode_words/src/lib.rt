@@ -1,7 +1,7 @@
 // Varicode: the word of each byte, and the byte of each word, by Martinez's table of 1998.
 ghost use mathlib.Core.Path.{_≡_};
 ghost use Prim.Native.Nat.{_<_};
-ghost use Rattle.varicode_words.specs.Word.{Written, decodeOf};
+ghost use Rattle.varicode_words.specs.Word.{Written, letterSaid, decodeOf};
 
 // A word: its bits, the last one lowest, and how many there are.
 pub struct Word {
@@ -302,7 +302,7 @@ pub fn varicode_encode(byte: u8) -> Word
 
 // The byte whose word has these bits and this length, if there is one.
 pub fn varicode_decode(bits: u16, len: u8) -> Letter
-    ensures { λ r. ⌜ r ≡ decodeOf bits len ⌝ }
+    ensures { λ r. ⌜ letterSaid r ≡ decodeOf bits len ⌝ }
 {
     for i in 0..128 {
         let word = word_at(i);

@@ -1,14 +1,13 @@
 -- `varicode::VaricodeDecoder::end_word`: the word is looked up, and its character put where it fits. Assumes nothing.
-use mathlib.Core.Path.{_≡_, refl, ap, _∙_}
-use Prim.Native.Nat.{ℕ, _+_, _≤_}
-use native.Mathlib.Numerals.{add-one}
-use native.Mathlib.Omega.{arith}
+use mathlib.Core.Path.{_≡_, refl, sym, ap, _∙_}
+use Prim.Native.Nat.{ℕ}
 use borrow.Author.Needs.{needs}
-use lib.Arith.{lt-of-le-ne}
 use lib.Dec.{lit<}
-use Rattle.varicode_words.specs.Word.{decodeOf}
+use Rattle.varicode_words.specs.declared.Letter.{Letter}
+use Rattle.varicode_words.specs.Word.{letterSaid, decodeOf}
+use Rattle.varicode.specs.Reader.{charRoom}
 use Rattle.varicode.proofs.Bits.{feeds-full, feeds-byte, feeds-nothing}
-use Rattle.varicode.proofs.Takes.{within}
+use Rattle.varicode.proofs.Takes.{room-for-one}
 use Rattle.varicode.proofs.VaricodeDecoder.end_word.Statement.{statement}
 use Rattle.varicode.proofs.VaricodeDecoder.end_word.Tie as tie
 
@@ -27,20 +26,25 @@ read-requires c κs = search needs
 not-done-requires : tie.Need-not-done-requires
 not-done-requires c κs = search needs
 
+-- what the look-up said of the letter that it found, or of nothing, by the length without the trailing zero
+looked-up : {l found : Letter} (bits : ℕ) {short len : ℕ} → letterSaid l ≡ decodeOf bits short → l ≡ found → short ≡ len → letterSaid found ≡ decodeOf bits len
+looked-up bits said is less = sym (ap letterSaid is) ∙ said ∙ ap (decodeOf bits) less
+
 returns : tie.Need-returns
 returns c =
-    let start = c .before .before .before .before .before .before .before .before .before .before .before .before in
-    let looked = c .before .before .before .before .before .before .before .varicode-decode .ensures ∙ ap (decodeOf _) (c .before .before .before .before .before .before .before .before .one-less .ensures) in
-    feeds-full (start .args .self) _ (start .pre) _ looked _ (c .before .before .before .before .before .c .given .1) _ (c .before .before .before .read .ensures) (c .before .if1 .taken)
-    (c .not-done .ensures) refl
-
-room-for-one : (n : ℕ) → n + 0 ≤ 64 → (n ≡ 64 → ⊥) → n + 1 ≤ 64
-room-for-one n h free = rw (add-one n) (lt-of-le-ne (omega arith) free)
+    let full : tie.Then1 = search in
+    let queue : tie.After-read = search in
+    let letter : tie.After-c = search in
+    let looked : tie.After-varicode-decode = search in
+    let less : tie.After-one-less = search in
+    let start : tie.Start = search in
+    feeds-full (start .args .self) _ (start .pre) _ (looked-up _ (looked .varicode-decode .ensures) (letter .c .given .1) (less .one-less .ensures)) _
+    (queue .read .ensures) (full .if1 .taken) (c .not-done .ensures) refl
 
 put-requires : tie.Need-put-requires
 put-requires c κs =
-    let room = within 64 (lit< tt) _ _ (c .before .before .read .ensures) in
-    record { head = room .head; count = room-for-one _ (room .count) (c .if1 .left) }
+    let queue : tie.After-read = search in
+    room-for-one charRoom (lit< tt) _ _ (queue .read .ensures) (c .if1 .left)
 
 forgotten-requires : tie.Need-forgotten-requires
 forgotten-requires c κs = search needs
@@ -53,16 +57,24 @@ forgotten-requires-2 c κs = search needs
 
 returns-2 : tie.Need-returns-2
 returns-2 c =
-    let start = c .before .before .before .before .before .before .before .before .before .before .before .before .before in
-    let looked = c .before .before .before .before .before .before .before .before .varicode-decode .ensures ∙ ap (decodeOf _) (c .before .before .before .before .before .before .before .before .before .one-less .ensures) in
-    feeds-byte (start .args .self) _ (start .pre) _ looked _ (c .before .before .before .before .before .before .c .given .1) _ (c .before .before .before .before .read .ensures) (c .before .before .if1 .left) _
-    (c .before .put .ensures) refl (c .forgotten .ensures)
+    let put : tie.After-put = search in
+    let free : tie.Else1 = search in
+    let queue : tie.After-read = search in
+    let letter : tie.After-c = search in
+    let looked : tie.After-varicode-decode = search in
+    let less : tie.After-one-less = search in
+    let start : tie.Start = search in
+    feeds-byte (start .args .self) _ (start .pre) _ (looked-up _ (looked .varicode-decode .ensures) (letter .c .given .1) (less .one-less .ensures)) _
+    (queue .read .ensures) (free .if1 .left) _ (put .put .ensures) refl (c .forgotten .ensures)
 
 returns-3 : tie.Need-returns-3
 returns-3 c =
-    let start = c .before .before .before .before .before .before .before .before in
-    let looked = c .before .before .before .varicode-decode .ensures ∙ ap (decodeOf _) (c .before .before .before .before .one-less .ensures) in
-    feeds-nothing (start .args .self) _ (start .pre) _ looked (c .before .enum-told .given .1) refl (c .forgotten2 .ensures)
+    let letter : tie.After-enum-told = search in
+    let looked : tie.After-varicode-decode = search in
+    let less : tie.After-one-less = search in
+    let start : tie.Start = search in
+    feeds-nothing (start .args .self) _ (start .pre)
+    (looked-up _ (looked .varicode-decode .ensures) (letter .enum-told .given .1) (less .one-less .ensures)) refl (c .forgotten2 .ensures)
 
 pub end-word-spec : {M : Type 1} → statement M
 end-word-spec = tie.close (tie.spec one-less-requires varicode-decode-requires enum-known-c read-requires not-done-requires returns put-requires forgotten-requires enum-told forgotten-requires-2 returns-2 returns-3)

@@ -1,11 +1,12 @@
 -- `varicode::VaricodeDecoder::pop_char`: the queue without its front. Assumes nothing.
 use mathlib.Core.Bool.{Bool}
+use mathlib.Core.List.{[], _∷_}
 use mathlib.Core.Path.{sym, ap, _∙_}
+use Prim.Native.Nat.{ℕ}
 use borrow.Author.Needs.{needs}
 use lib.Dec.{lit<}
 use Rattle.queue.specs.Ring.{Ring}
-use Rattle.varicode.specs.declared.Taken.the-variants.{One}
-use Rattle.varicode.specs.Reader.{Reader, Heard}
+use Rattle.varicode.specs.Reader.{Reader, Heard, charRoom}
 use Rattle.varicode.specs.Held.{reader}
 use Rattle.varicode.proofs.Takes.{within, taken-nothing, left-whole, holds-some, taken-front, left-rest}
 use Rattle.varicode.proofs.VaricodeDecoder.pop_char.Statement.{statement}
@@ -22,23 +23,23 @@ returns c =
     let read = c .before .before .read .ensures in
     let args = c .before .before .before .before .args in
     record {
-      answer = sym (taken-nothing 64 (lit< tt) _ _ read (c .if1 .taken));
-      state = ap (made (reader (args .self) .heard)) (sym (left-whole 64 (lit< tt) _ _ read (c .if1 .taken)));
+      answer = sym (taken-nothing charRoom (lit< tt) _ _ read (c .if1 .taken));
+      state = ap (made (reader (args .self) .heard)) (sym (left-whole charRoom (lit< tt) _ _ read (c .if1 .taken)));
     }
 
 rest-requires : tie.Need-rest-requires
-rest-requires c κs = holds-some 64 (lit< tt) _ _ (c .before .before .read .ensures) (c .if1 .left)
+rest-requires c κs = holds-some charRoom (lit< tt) _ _ (c .before .before .read .ensures) (c .if1 .left)
 
 front-requires : tie.Need-front-requires
-front-requires c κs = within 64 (lit< tt) _ _ (c .before .before .before .read .ensures)
+front-requires c κs = within charRoom (lit< tt) _ _ (c .before .before .before .read .ensures)
 
 returns-2 : tie.Need-returns-2
 returns-2 c =
     let read = c .before .before .before .before .read .ensures in
     let args = c .before .before .before .before .before .before .args in
     record {
-      answer = ap One (c .front .ensures) ∙ sym (taken-front 64 (lit< tt) _ _ read (c .before .before .if1 .left));
-      state = ap (made (reader (args .self) .heard)) (c .before .rest .ensures ∙ sym (left-rest 64 (lit< tt) _ _ read (c .before .before .if1 .left)));
+      answer = ap (λ (v : ℕ). v ∷ []) (c .front .ensures) ∙ sym (taken-front charRoom (lit< tt) _ _ read (c .before .before .if1 .left));
+      state = ap (made (reader (args .self) .heard)) (c .before .rest .ensures ∙ sym (left-rest charRoom (lit< tt) _ _ read (c .before .before .if1 .left)));
     }
 
 pub pop-char-spec : {M : Type 1} → statement M
