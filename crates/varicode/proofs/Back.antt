@@ -1,4 +1,4 @@
--- What the stream of a text reads as: one even opening, the bytes, one closing give the text, letter for letter. Assumes nothing.
+-- What the stream of a text reads as: one even opening or none, the bytes, one closing give the text, letter for letter. Assumes nothing.
 use mathlib.Core.Bool.{Bool, true, false}
 use mathlib.Core.List.{List, [], _∷_, _++_, append-nil, map}
 use mathlib.Core.Path.{_≡_, refl, sym, ap, _∙_}
@@ -12,10 +12,10 @@ use Rattle.varicode_words.specs.Word.{lengthOf, wordOf, bitsOf}
 use Rattle.varicode_words.proofs.Facts.{word-length, word-sized, word-rule, word-decodes}
 use Rattle.varicode_words.proofs.Sound.{Sound, one, after-one, after-gap}
 use Rattle.varicode.specs.Reader.{nothingHeard, lettersFrom}
-use Rattle.varicode.specs.Writer.{opening, byte, closing, bitsPut, firstAfter, streamFrom}
-use Rattle.varicode.specs.Runs.{Text, none, more, written, ReadsBack}
+use Rattle.varicode.specs.Writer.{Call, opening, byte, closing, bitsPut, firstAfter, streamFrom}
+use Rattle.varicode.specs.Runs.{Text, none, more, written, Relayed, received, ReadsBack, ReadsBackUnopened}
 use Rattle.varicode.proofs.Words.{Rest, done, zero-bit, one-bit, word-read, zeros-read, ones-read}
-use Rattle.varicode.proofs.WriterRuns.{writer-hands-out}
+use Rattle.varicode.proofs.WriterRuns.{all-handed-out}
 use Rattle.varicode.proofs.ReaderRuns.{reader-hands-out}
 
 -- once a byte has been written the gap comes first
@@ -56,14 +56,18 @@ text-read (more {b} {bs} h r) n =
     ap (λ (l : List ℕ). lettersFrom nothingHeard (bitsOf (wordOf b) ++ l)) (after-byte bs n)
     ∙ byte-read b h (streamFrom true (written bs n)) ∙ ap (λ (l : List ℕ). b ∷ l) (text-read r n)
 
-pub stream-read :
+stream-read :
     (k n : ℕ) {text : List ℕ} → Text text → lettersFrom nothingHeard (streamFrom true (opening (2 * k) ∷ written text n)) ≡ text
 unfolding streamFrom bitsPut firstAfter
 stream-read k n {text} r = zeros-first k (streamFrom true (written text n)) ∙ text-read r n
 
+-- what is received is what the calls' stream reads as
+relayed-read : (calls : List Call) (r : Relayed calls) → received r ≡ lettersFrom nothingHeard (streamFrom true calls)
+relayed-read calls r = reader-hands-out (r .read) ∙ ap (lettersFrom nothingHeard) (all-handed-out (r .wrote) (r .all))
+
 -- so that a notice reads back
 pub read-back : ReadsBack
-read-back w r text sent got k n t wrote all read =
-    let stream : sent ≡ streamFrom true (opening (2 * k) ∷ written text n) =
-    sym (append-nil sent) ∙ ap (λ (l : List ℕ). sent ++ l) (sym all) ∙ writer-hands-out wrote in
-    reader-hands-out read ∙ ap (lettersFrom nothingHeard) stream ∙ stream-read k n t
+read-back text k n t r = relayed-read (opening (2 * k) ∷ written text n) r ∙ stream-read k n t
+
+pub read-back-unopened : ReadsBackUnopened
+read-back-unopened text n t r = relayed-read (written text n) r ∙ text-read t n

@@ -3,7 +3,7 @@ use mathlib.Core.Bool.{Bool, true, false, cond}
 use mathlib.Core.List.{List, [], _∷_, _++_, append-assoc}
 use mathlib.Core.Logic.{_⊎_, ⊎-elim}
 use mathlib.Core.Path.{_≡_, refl, sym, ap, _∙_}
-use Prim.Native.Nat.{ℕ, _<_}
+use Prim.Native.Nat.{ℕ, suc, _<_}
 use native.Mathlib.Nat.{eq-zero-or-pos}
 use native.Mathlib.Omega.{arith}
 use borrow.Author.Tests.{eqb-false}
@@ -12,6 +12,7 @@ use Rattle.queue.specs.Ring.{Ring, Whole, front, rest, inside}
 use Rattle.queue.proofs.Rings.{read-whole, rest-whole, inside-rest}
 use Rattle.refusal.specs.Answer.{Said, accepted, refuseWhen}
 use Rattle.varicode.specs.Take.{taken, left}
+use Rattle.varicode.proofs.Takes.{taken-front, left-rest}
 
 module _ (cap : ℕ) (p : Ring) (whole : Whole cap p) where
   -- a test on the count settles what is taken
@@ -48,6 +49,18 @@ module _ (cap : ℕ) (p : Ring) (whole : Whole cap p) where
 
   pub kept : taken cap p ≡ [] → left cap p ≡ p
   kept e = left-read ∙ ap (λ (b : Bool). cond b p (rest cap p)) (none-means-empty (eqb (p .count) 0) (sym taken-read ∙ e))
+
+-- one that holds something hands its front out, and holds one fewer
+module _ {cap : ℕ} {p : Ring} (whole : Whole cap p) {n : ℕ} (holds : p .count ≡ suc n) where
+  some : p .count ≡ 0 → ⊥
+  some none = omega arith
+
+  pub front-taken : taken cap p ≡ front p ∷ []
+  front-taken = taken-front cap (omega (arith, whole .head)) p p (sym (read-whole whole)) some
+
+  pub one-fewer : left cap p .count ≡ n
+  one-fewer =
+      ap (λ (q : Ring). q .count) (left-rest cap (omega (arith, whole .head)) p p (sym (read-whole whole)) some) ∙ omega arith
 
 -- an element that moved from the front of a list to the end of the one before it
 pub behind : (out : List ℕ) (v : ℕ) (l : List ℕ) → (out ++ v ∷ []) ++ l ≡ out ++ v ∷ l

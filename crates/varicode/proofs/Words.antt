@@ -14,6 +14,7 @@ use Rattle.binary.specs.Digits.{value}
 use Rattle.binary.proofs.Values.{Bits, none, more, value-below, value-snoc}
 use Rattle.varicode_words.specs.Word.{lengthOf, found, decodeOf}
 use Rattle.varicode.specs.Reader.{Heard, nothingHeard, letterAt, heardAfter, lettersFrom}
+use Rattle.varicode.proofs.Streams.{append-bits}
 
 -- the rest of a word, after a zero or not: no 00, and its last bit is 1
 pub data Rest : Bool → List ℕ → Type 0 where
@@ -26,8 +27,7 @@ abbrev heardOf : List ℕ → Bool → Heard
 heardOf part z = record { shift = value part; len = length part; prevZero = z }
 
 snoc-bits : (part : List ℕ) (b : ℕ) → Bits part → b < 2 → Bits (part ++ b ∷ [])
-snoc-bits [] b r h = more h none
-snoc-bits (c ∷ part) b (more g r) h = more g (snoc-bits part b r h)
+snoc-bits part b are bit = append-bits are (more bit none)
 
 -- a bit that joins
 module _ (part : List ℕ) (b : ℕ) (are : Bits part) (bit : b < 2) (short : length part ≤ 10) where

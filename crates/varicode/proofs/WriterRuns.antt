@@ -93,3 +93,8 @@ writer-holds (finds-none {w} {calls} {out} r e) = writer-finds-none w calls out 
 pub writer-hands-out :
     {w : Writer} {calls : List Call} {out : List ℕ} → WriterRun w calls out → out ++ inside bitRoom (w .pending) ≡ streamFrom true calls
 writer-hands-out r = writer-holds r .order
+
+-- and where nothing is left inside, what was taken out
+pub all-handed-out :
+    {w : Writer} {calls : List Call} {out : List ℕ} → WriterRun w calls out → inside bitRoom (w .pending) ≡ [] → out ≡ streamFrom true calls
+all-handed-out {out = out} r none = sym (append-nil out) ∙ ap (λ (l : List ℕ). out ++ l) (sym none) ∙ writer-hands-out r

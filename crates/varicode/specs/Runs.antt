@@ -1,12 +1,14 @@
 -- Runs: calls one after the other from a fresh writer or reader, every one accepted, in any order and with takings-out anywhere between.
 -- Definitions only.
+use mathlib.Core.Bool.{Bool}
 use mathlib.Core.List.{List, [], _∷_, _++_, map}
 use mathlib.Core.Path.{_≡_}
-use Prim.Native.Nat.{ℕ, _*_, _<_}
+use Prim.Native.Nat.{ℕ, _*_, _≤_, _<_}
+use lib.ListN.{length}
 use Rattle.queue.specs.Ring.{inside}
 use Rattle.refusal.specs.Answer.{accepted}
 use Rattle.varicode.specs.Take.{taken}
-use Rattle.varicode.specs.Writer.{Writer, Call, opening, byte, closing, bitRoom, freshWriter, putSaid, putLeaves, nextLeaves}
+use Rattle.varicode.specs.Writer.{Writer, Call, opening, byte, closing, bitsPut, bitRoom, freshWriter, putSaid, putLeaves, nextLeaves}
 use Rattle.varicode.specs.Reader.{Reader, charRoom, freshReader, bitSaid, bitLeaves, charLeaves}
 
 -- the writer that the run ends in, the calls that put bits, and the bits that were taken out, each in order
@@ -44,10 +46,35 @@ pub data Text : List ℕ → Type 0 where
 abbrev pub written : List ℕ → ℕ → List Call
 written text n = map byte text ++ closing n ∷ []
 
--- Read-back: one even opening, bytes below 128, one closing, through a fresh writer whose bits are all taken out, and those bits through a fresh
--- reader: what is taken out of the reader, and what is still inside, is the text, letter for letter.
+-- Calls through a fresh writer, every one accepted and every bit taken out, and those bits through a fresh reader, every one accepted.
+pub record Relayed (calls : List Call) : Type 0 where
+  pub writer : Writer
+  pub reader : Reader
+  pub sent : List ℕ
+  pub got : List ℕ
+  pub wrote : WriterRun writer calls sent
+  pub all : inside bitRoom (writer .pending) ≡ []
+  pub read : ReaderRun reader sent got
+
+-- what is taken out of the reader, and what is still inside
+abbrev pub received : {calls : List Call} → Relayed calls → List ℕ
+received r = r .got ++ inside charRoom (r .reader .chars)
+
+-- Read-back: of one even opening, bytes below 128 and one closing, what is received is the text, letter for letter.
 abbrev pub ReadsBack : Type 0
 ReadsBack =
-    (w : Writer) (r : Reader) (text sent got : List ℕ) (k n : ℕ) → Text text →
-    WriterRun w (opening (2 * k) ∷ written text n) sent → inside bitRoom (w .pending) ≡ [] →
-    ReaderRun r sent got → got ++ inside charRoom (r .chars) ≡ text
+    (text : List ℕ) (k n : ℕ) → Text text → (r : Relayed (opening (2 * k) ∷ written text n)) → received r ≡ text
+
+-- The same with no opening at all.
+abbrev pub ReadsBackUnopened : Type 0
+ReadsBackUnopened = (text : List ℕ) (n : ℕ) → Text text → (r : Relayed (written text n)) → received r ≡ text
+
+-- ---- that calls can be relayed
+
+-- a call whose bits all fit in an empty queue, whether or not a byte was written before it
+abbrev pub Fits : Call → Type 0
+Fits c = (first : Bool) → length (bitsPut first c) ≤ bitRoom
+
+abbrev pub AllFit : List Call → Type 0
+AllFit [] = Unit
+AllFit (c ∷ cs) = Fits c × AllFit cs
