@@ -28,11 +28,6 @@ around-suc cap at n = mod-add-mod (at + 1) cap n ∙ ap (λ (m : ℕ). m % cap) 
 
 -- ---- elements from a place on
 
-length-elements : (cap : ℕ) (slots : List ℕ) (at n : ℕ) → length (elements cap slots at n) ≡ n
-unfolding elements
-length-elements cap slots at zero = refl
-length-elements cap slots at (suc n) = ap suc (length-elements cap slots ((at + 1) % cap) n)
-
 module _ (cap : ℕ) (slots : List ℕ) where
   elements-snoc :
       (at n : ℕ) → at < cap →
@@ -71,16 +66,9 @@ pub read-room : {cap : ℕ} → 0 < cap → (r : Ring) → Room cap (readAs cap 
 read-room {cap} some r =
     record { head = mod-lt (r .head) some; count = omega (arith, mod-lt (r .count) {m = cap + 1} (omega arith)) }
 
-pub read-is-whole : {cap : ℕ} → 0 < cap → (r : Ring) → length (r .slots) ≡ cap → Whole cap (readAs cap r)
-read-is-whole some r size = let room = read-room some r in record { size = size; head = room .head; count = omega arith }
-
 -- a whole record is read as it stands
 pub read-whole : {cap : ℕ} {r : Ring} → Whole cap r → readAs cap r ≡ r
 read-whole {cap} {r} w = rw (mod-eq-of-lt (w .head), mod-eq-of-lt {n = r .count} {m = cap + 1} (omega arith))
-
-pub length-inside : (cap : ℕ) (r : Ring) → length (inside cap r) ≡ r .count
-unfolding inside
-length-inside cap r = length-elements cap (r .slots) (r .head) (r .count)
 
 -- ---- putting in
 

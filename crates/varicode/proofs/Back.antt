@@ -1,18 +1,18 @@
 -- What the stream of a text reads as: one even opening or none, the bytes, one closing give the text, letter for letter. Assumes nothing.
 use mathlib.Core.Bool.{Bool, true, false}
-use mathlib.Core.List.{List, [], _∷_, _++_, append-nil, map}
-use mathlib.Core.Path.{_≡_, refl, sym, ap, _∙_}
+use mathlib.Core.List.{List, [], _∷_, _++_, append-nil}
+use mathlib.Core.Path.{_≡_, refl, ap, _∙_}
 use Prim.Native.Nat.{ℕ, zero, suc, _*_, _<_}
 use native.Mathlib.Nat.{mod-eq-of-lt}
 use native.Mathlib.Omega.{arith}
-use lib.ListN.{length, replicate}
+use lib.ListN.{replicate}
 use Rattle.binary.specs.Digits.{digits, value}
-use Rattle.binary.proofs.Values.{Bits, length-digits, digits-bits, value-digits}
+use Rattle.binary.proofs.Values.{length-digits, digits-bits, value-digits}
 use Rattle.varicode_words.specs.Word.{lengthOf, wordOf, bitsOf}
 use Rattle.varicode_words.proofs.Facts.{word-length, word-sized, word-rule, word-decodes}
 use Rattle.varicode_words.proofs.Sound.{Sound, one, after-one, after-gap}
 use Rattle.varicode.specs.Reader.{nothingHeard, lettersFrom}
-use Rattle.varicode.specs.Writer.{Call, opening, byte, closing, bitsPut, firstAfter, streamFrom}
+use Rattle.varicode.specs.Writer.{Call, opening, bitsPut, firstAfter, streamFrom}
 use Rattle.varicode.specs.Runs.{Text, none, more, written, Relayed, received, ReadsBack, ReadsBackUnopened}
 use Rattle.varicode.proofs.Words.{Rest, done, zero-bit, one-bit, word-read, zeros-read, ones-read}
 use Rattle.varicode.proofs.WriterRuns.{all-handed-out}

@@ -14,7 +14,7 @@ use Rattle.varicode_words.specs.Word.{decodeOf}
 use Rattle.varicode.specs.declared.VaricodeDecoder.{VaricodeDecoder}
 use Rattle.varicode.specs.declared.Fed.{Fed}
 use Rattle.varicode.specs.Held.{reader, Feeds, Joins, Forgets}
-use Rattle.varicode.specs.Reader.{Reader, Heard, charRoom, nothingHeard, ends, letterAt, heardAfter, joinedTo, readHeard, brought, noRoom, withLetter, bitSaid, bitLeaves}
+use Rattle.varicode.specs.Reader.{Reader, Heard, charRoom, nothingHeard, ends, letterAt, heardAfter, readHeard, brought, noRoom, withLetter, bitSaid, bitLeaves}
 use Rattle.varicode.proofs.Takes.{room-for-one}
 
 abbrev made : Heard → Ring → Reader

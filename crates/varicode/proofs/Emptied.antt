@@ -2,14 +2,13 @@
 use mathlib.Core.Bool.{false}
 use mathlib.Core.List.{List, [], _∷_, _++_, append-assoc, append-nil}
 use mathlib.Core.Path.{_≡_, refl, sym, subst}
-use Prim.Native.Nat.{ℕ, zero, suc, _+_, _-_, _/_, _≤_, _<_}
+use Prim.Native.Nat.{ℕ, zero, suc, _+_, _-_, _/_, _≤_}
 use native.Mathlib.Omega.{arith}
 use borrow.Author.Tests.{le-ltb}
 use lib.ListN.{length}
 use Rattle.binary.proofs.Values.{Bits, more}
 use Rattle.queue.specs.Ring.{Ring, readAs, front}
 use Rattle.refusal.specs.Answer.{accepted}
-use Rattle.varicode_words.specs.Word.{decodeOf}
 use Rattle.varicode_words.proofs.Search.{either-few, few-decoded}
 use Rattle.varicode.specs.Reader.{Reader, Heard, charRoom, ends, letterAt, readHeard, brought, noRoom, bitSaid}
 use Rattle.varicode.specs.Runs.{ReaderRun, start, feeds, takes}

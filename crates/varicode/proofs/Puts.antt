@@ -1,8 +1,8 @@
 -- The calls that put bits: refused where the bits don't all fit, and otherwise with the bits behind the others. Assumes nothing.
 use mathlib.Core.Bool.{Bool, true, false}
 use mathlib.Core.List.{List, _++_}
-use mathlib.Core.Path.{_≡_, refl, sym, ap, ap₂, subst, _∙_}
-use Prim.Native.Nat.{ℕ, _+_, _≤_, _<_}
+use mathlib.Core.Path.{_≡_, refl, sym, ap, _∙_}
+use Prim.Native.Nat.{ℕ, _+_, _≤_}
 use native.Mathlib.Omega.{arith}
 use borrow.Author.Tests.{lt-ltb, le-ltb, leb-true, leb-false}
 use lib.Dec.{leb, lit<}
@@ -13,11 +13,10 @@ use Rattle.queue.specs.declared.BitQueue.{BitQueue}
 use Rattle.queue.specs.Held.{bits, Room}
 use Rattle.queue.specs.Ring.{Ring, readAs, putAll}
 use Rattle.queue.proofs.Rings.{read-room, put-all-append, put-all-room}
-use Rattle.refusal.specs.Answer.{Said, accepted, refused, doneSaid}
 use Rattle.varicode_words.specs.Word.{lengthOf, wordOf, bitsOf}
 use Rattle.varicode.specs.declared.VaricodeEncoder.{VaricodeEncoder}
 use Rattle.varicode.specs.declared.Wrote.{Wrote}
-use Rattle.varicode.specs.Writer.{Writer, Call, opening, byte, closing, gap, bitRoom, bitsPut, firstAfter, tooMany, putSaid, putLeaves}
+use Rattle.varicode.specs.Writer.{Call, opening, byte, closing, gap, bitRoom, bitsPut, firstAfter, tooMany, putSaid, putLeaves}
 use Rattle.varicode.specs.Held.{writer, Puts, Writes, Keeps}
 
 -- a queue as it is read is within its array

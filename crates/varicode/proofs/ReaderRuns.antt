@@ -2,15 +2,15 @@
 use mathlib.Core.Bool.{Bool, true, false, cond}
 use mathlib.Core.List.{List, [], _∷_, _++_, append-assoc, append-nil}
 use mathlib.Core.Path.{_≡_, refl, sym, ap, ap₂, subst, _∙_}
-use Prim.Native.Nat.{ℕ, _+_, _%_, _≤_, _<_}
+use Prim.Native.Nat.{ℕ, _+_, _≤_}
 use native.Mathlib.Nat.{mod-eq-of-lt, min-le-right}
 use native.Mathlib.Omega.{arith}
 use borrow.Author.Tests.{ltb-false}
-use lib.Dec.{ltb, eqb, lit<}
+use lib.Dec.{ltb, lit<}
 use lib.ListN.{length}
 use Rattle.queue.specs.Ring.{Ring, Whole, readAs, putAll, inside}
 use Rattle.queue.proofs.Rings.{empty-whole, inside-empty, read-whole, put-all-whole, inside-put-all}
-use Rattle.refusal.specs.Answer.{Said, accepted, refuseWhen}
+use Rattle.refusal.specs.Answer.{accepted, refuseWhen}
 use Rattle.varicode.specs.Take.{taken, left}
 use Rattle.varicode.specs.Reader.{Reader, Heard, charRoom, nothingHeard, ends, letterAt, heardAfter, joinedTo, lettersFrom, readHeard, freshReader, brought, noRoom, withLetter, bitSaid, bitLeaves, charLeaves}
 use Rattle.varicode.specs.Runs.{ReaderRun, start, feeds, takes, finds-none}

@@ -1,18 +1,17 @@
 -- Reading a word and its gap from nothing heard: the word is looked up, and nothing is heard again. Over any word of at most ten bits that
 -- holds no 00 and ends with 1. Assumes nothing.
-use mathlib.Core.Bool.{Bool, true, false, cond}
+use mathlib.Core.Bool.{Bool, true, false}
 use mathlib.Core.List.{List, [], _∷_, _++_, append-assoc, append-nil}
-use mathlib.Core.Path.{_≡_, refl, sym, ap, ap₂, subst, _∙_}
-use Prim.Native.Nat.{ℕ, zero, suc, _+_, _-_, _*_, _/_, _%_, _^_, min, _≤_, _<_}
-use native.Mathlib.Nat.{mod-eq-of-lt, lt-of-lt-of-le, min-eq-left, suc-mul, mul-comm}
-use native.Mathlib.Numerals.{add-one}
+use mathlib.Core.Path.{_≡_, refl, sym, ap, _∙_}
+use Prim.Native.Nat.{ℕ, zero, suc, _+_, _-_, _*_, _/_, _%_, min, _≤_, _<_}
+use native.Mathlib.Nat.{mod-eq-of-lt, lt-of-lt-of-le, min-eq-left}
 use native.Mathlib.Omega.{arith}
-use lib.Dec.{eqb, lit<, lit≤}
+use lib.Dec.{eqb, lit<}
 use lib.ListN.{length, replicate, length-append}
 use lib.Pow.{pow-mono}
 use Rattle.binary.specs.Digits.{value}
 use Rattle.binary.proofs.Values.{Bits, none, more, value-below, value-snoc}
-use Rattle.varicode_words.specs.Word.{lengthOf, found, decodeOf}
+use Rattle.varicode_words.specs.Word.{lengthOf, decodeOf}
 use Rattle.varicode.specs.Reader.{Heard, nothingHeard, letterAt, heardAfter, lettersFrom}
 use Rattle.varicode.proofs.Streams.{append-bits}
 

@@ -1,5 +1,4 @@
 -- `varicode::VaricodeDecoder::pop_char`: the queue without its front. Assumes nothing.
-use mathlib.Core.Bool.{Bool}
 use mathlib.Core.List.{[], _∷_}
 use mathlib.Core.Path.{sym, ap, _∙_}
 use Prim.Native.Nat.{ℕ}

@@ -7,7 +7,6 @@ use borrow.Author.Needs.{needs}
 use lib.Dec.{lit<}
 use Rattle.queue.specs.Ring.{Ring}
 use Rattle.varicode.specs.Writer.{Writer, bitRoom}
-use Rattle.varicode.specs.Held.{writer}
 use Rattle.varicode.proofs.Takes.{within, taken-nothing, left-whole, holds-some, taken-front, left-rest}
 use Rattle.varicode.proofs.VaricodeEncoder.next_bit.Statement.{statement}
 use Rattle.varicode.proofs.VaricodeEncoder.next_bit.Tie as tie
