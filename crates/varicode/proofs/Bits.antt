@@ -14,7 +14,8 @@ use Rattle.varicode_words.specs.Word.{decodeOf}
 use Rattle.varicode.specs.declared.VaricodeDecoder.{VaricodeDecoder}
 use Rattle.varicode.specs.declared.Fed.{Fed}
 use Rattle.varicode.specs.Held.{reader, Feeds, Joins, Forgets}
-use Rattle.varicode.specs.Reader.{Reader, Heard, charRoom, nothingHeard, ends, letterAt, heardAfter, readHeard, brought, noRoom, withLetter, bitSaid, bitLeaves}
+use Rattle.varicode.specs.Reader.{Heard, nothingHeard, ends, letterAt, heardAfter, readHeard}
+use Rattle.varicode.specs.Reader.{Reader, charRoom, brought, noRoom, withLetter, bitSaid, bitLeaves}
 use Rattle.varicode.proofs.Takes.{room-for-one}
 
 abbrev made : Heard → Ring → Reader
@@ -92,7 +93,8 @@ module _ (d : VaricodeDecoder) (r : Fed) (zero-before : d .«prev_zero» ≡ tru
       [] ≡ decodeOf (d .shift / 2) (d .len % 12 - 1) → doneSaid (r .answer) ≡ accepted tt → Forgets (d .chars) (r .decoder) → Feeds d 0 r
   feeds-nothing none a f = feeds-letter d r zero-before [] none (no-letter-fits (chars (d .chars))) (d .chars) refl a f
 
-  module _ (c : ℕ) (one : c ∷ [] ≡ decodeOf (d .shift / 2) (d .len % 12 - 1)) (q : Ring) (read : q ≡ readAs charRoom (chars (d .chars))) where
+  module _
+      (c : ℕ) (one : c ∷ [] ≡ decodeOf (d .shift / 2) (d .len % 12 - 1)) (q : Ring) (read : q ≡ readAs charRoom (chars (d .chars))) where
     pub feeds-full : q .count ≡ charRoom → doneSaid (r .answer) ≡ refused 9 0 → r .decoder ≡ d → Feeds d 0 r
     feeds-full full a s = feeds-refused d r zero-before (c ∷ []) one (full-refuses q (chars (d .chars)) read c full) a s
 

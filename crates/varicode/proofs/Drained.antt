@@ -1,5 +1,5 @@
--- A writer from which everything was taken out refuses no call that fits in its queue, so that calls that fit can all be made, one after the
--- other. Assumes nothing.
+-- A writer from which everything was taken out refuses no call that fits in its queue, so that calls that fit can all be made, one
+-- after the other. Assumes nothing.
 use mathlib.Core.List.{List, [], _∷_, _++_, append-assoc, append-nil}
 use mathlib.Core.Path.{_≡_, refl, sym, subst}
 use Prim.Native.Nat.{ℕ, zero, suc, _+_, _≤_}

@@ -1,6 +1,7 @@
--- Puts: the calls that put bits. Takes, Queues: taking out. Bits: the ways of a bit that is pushed. WriterRuns, ReaderRuns: calls one after the other.
--- Streams: what a writer puts are bits. Words: a word and its gap, read from nothing heard. Back: what a text's stream reads as. Drained, Emptied: a
--- writer and a reader that refuse nothing. Premise: read-back's premise can be met. Unique: each contract allows one outcome at most.
+-- Puts: the calls that put bits. Takes, Queues: taking out. Bits: the ways of a bit that is pushed. WriterRuns, ReaderRuns: calls
+-- one after the other. Streams: what a writer puts are bits. Words: a word and its gap, read from nothing heard. Back: what a text's
+-- stream reads as. Drained, Emptied: a writer and a reader that refuse nothing. Premise: read-back's premise can be met. Unique: each
+-- contract allows one outcome at most.
 pub mod Puts
 pub mod Takes
 pub mod Bits

@@ -1,5 +1,5 @@
--- Read-back's premise can be met: calls that fit can all be relayed, and so can every text, with any opening and any closing that fit, or with
--- no opening. Assumes nothing.
+-- Read-back's premise can be met: calls that fit can all be relayed, and so can every text, with any opening and any closing that
+-- fit, or with no opening. Assumes nothing.
 use mathlib.Core.Bool.{Bool, true, false}
 use mathlib.Core.List.{List, [], _∷_}
 use mathlib.Core.Path.{_≡_, sym, subst}

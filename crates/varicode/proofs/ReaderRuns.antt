@@ -12,7 +12,8 @@ use Rattle.queue.specs.Ring.{Ring, Whole, readAs, putAll, inside}
 use Rattle.queue.proofs.Rings.{empty-whole, inside-empty, read-whole, put-all-whole, inside-put-all}
 use Rattle.refusal.specs.Answer.{accepted, refuseWhen}
 use Rattle.varicode.specs.Take.{taken, left}
-use Rattle.varicode.specs.Reader.{Reader, Heard, charRoom, nothingHeard, ends, letterAt, heardAfter, joinedTo, lettersFrom, readHeard, freshReader, brought, noRoom, withLetter, bitSaid, bitLeaves, charLeaves}
+use Rattle.varicode.specs.Reader.{Heard, nothingHeard, ends, letterAt, heardAfter, joinedTo, lettersFrom, readHeard}
+use Rattle.varicode.specs.Reader.{Reader, charRoom, freshReader, brought, noRoom, withLetter, bitSaid, bitLeaves, charLeaves}
 use Rattle.varicode.specs.Runs.{ReaderRun, start, feeds, takes, finds-none}
 use Rattle.varicode.proofs.Queues.{handed, kept, behind, accepted-means}
 
@@ -66,8 +67,9 @@ gained : (letter : List ℕ) (q : Ring) → Whole charRoom q → noRoom letter q
 unfolding noRoom
 gained letter q w free =
     let same = with-letter letter q w in
+    let held : readAs charRoom q .count ≡ q .count = ap (λ (p : Ring). p .count) (read-whole w) in
     let room : q .count + length letter ≤ charRoom =
-    subst (λ (p : Ring). p .count + length letter ≤ charRoom) (read-whole w) (ltb-false charRoom (readAs charRoom q .count + length letter) free) in
+    rw held at (ltb-false charRoom (readAs charRoom q .count + length letter) free) in
     record { whole = rw same (put-all-whole w letter room); order = rw same (inside-put-all w letter room) }
 
 abbrev madeReader : Heard → Ring → Reader

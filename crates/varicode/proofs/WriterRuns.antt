@@ -10,7 +10,8 @@ use Rattle.queue.specs.Ring.{Ring, Whole, readAs, putAll, inside}
 use Rattle.queue.proofs.Rings.{empty-whole, inside-empty, read-whole, put-all-whole, inside-put-all}
 use Rattle.refusal.specs.Answer.{accepted}
 use Rattle.varicode.specs.Take.{taken, left}
-use Rattle.varicode.specs.Writer.{Writer, Call, bitRoom, bitsPut, firstAfter, streamFrom, freshWriter, tooMany, putSaid, putLeaves, nextLeaves}
+use Rattle.varicode.specs.Writer.{Call, bitsPut, firstAfter, streamFrom}
+use Rattle.varicode.specs.Writer.{Writer, bitRoom, freshWriter, tooMany, putSaid, putLeaves, nextLeaves}
 use Rattle.varicode.specs.Runs.{WriterRun, start, puts, takes, finds-none}
 use Rattle.varicode.proofs.Queues.{handed, kept, behind, accepted-means}
 
@@ -50,8 +51,9 @@ writer-puts w calls out c h said =
     let bits = bitsPut (w .first) c in
     let read = read-whole (h .whole) in
     let free = accepted-means 9 (ltb bitRoom (readAs bitRoom (w .pending) .count + length bits)) (accepted tt) said in
+    let held : readAs bitRoom (w .pending) .count ≡ w .pending .count = ap (λ (q : Ring). q .count) read in
     let room : w .pending .count + length bits ≤ bitRoom =
-    subst (λ (q : Ring). q .count + length bits ≤ bitRoom) read (ltb-false bitRoom (readAs bitRoom (w .pending) .count + length bits) free) in
+    rw held at (ltb-false bitRoom (readAs bitRoom (w .pending) .count + length bits) free) in
     let same : putLeaves w c ≡ madeWriter (putAll bitRoom (w .pending) bits) (firstAfter (w .first) c) =
     rw free (ap (λ (q : Ring). madeWriter (putAll bitRoom q bits) (firstAfter (w .first) c)) read) in
     rw same

@@ -16,14 +16,16 @@ use Rattle.varicode.specs.declared.NextBit.{NextBit}
 use Rattle.varicode.specs.declared.Fed.{Fed}
 use Rattle.varicode.specs.declared.NextChar.{NextChar}
 use Rattle.varicode.specs.Writer.{Writer, Call, putSaid, putLeaves, bitRoom, nextLeaves}
-use Rattle.varicode.specs.Reader.{Reader, nothingHeard, joinedTo, readHeard, bitSaid, bitLeaves, charRoom, charLeaves}
+use Rattle.varicode.specs.Reader.{nothingHeard, joinedTo, readHeard}
+use Rattle.varicode.specs.Reader.{Reader, bitSaid, bitLeaves, charRoom, charLeaves}
 use Rattle.varicode.specs.Take.{taken}
 
 abbrev pub writer : VaricodeEncoder → Writer
 writer e = record { pending = bits (e .pending); first = e .first }
 
 abbrev pub reader : VaricodeDecoder → Reader
-reader d = record { heard = record { shift = d .shift; len = d .len; prevZero = d .«prev_zero» }; chars = chars (d .chars) }
+reader d =
+    record { heard = record { shift = d .shift; len = d .len; prevZero = d .«prev_zero» }; chars = chars (d .chars) }
 
 -- the bit or the character that was taken out, if there was one
 abbrev pub takenSaid : Taken → List ℕ

@@ -1,5 +1,5 @@
--- Runs: calls one after the other from a fresh writer or reader, every one accepted, in any order and with takings-out anywhere between.
--- Definitions only.
+-- Runs: calls one after the other from a fresh writer or reader, every one accepted, in any order and with takings-out
+-- anywhere between. Read-back, of which they are the premise. Definitions only.
 use mathlib.Core.Bool.{Bool}
 use mathlib.Core.List.{List, [], _∷_, _++_, map}
 use mathlib.Core.Path.{_≡_}
@@ -8,7 +8,8 @@ use lib.ListN.{length}
 use Rattle.queue.specs.Ring.{inside}
 use Rattle.refusal.specs.Answer.{accepted}
 use Rattle.varicode.specs.Take.{taken}
-use Rattle.varicode.specs.Writer.{Writer, Call, opening, byte, closing, bitsPut, bitRoom, freshWriter, putSaid, putLeaves, nextLeaves}
+use Rattle.varicode.specs.Writer.{Writer, bitRoom, freshWriter, putSaid, putLeaves, nextLeaves}
+use Rattle.varicode.specs.Writer.{Call, opening, byte, closing, bitsPut}
 use Rattle.varicode.specs.Reader.{Reader, charRoom, freshReader, bitSaid, bitLeaves, charLeaves}
 
 -- the writer that the run ends in, the calls that put bits, and the bits that were taken out, each in order
@@ -18,7 +19,8 @@ pub data WriterRun : Writer → List Call → List ℕ → Type 0 where
       {w : Writer} {calls : List Call} {out : List ℕ} → WriterRun w calls out → (c : Call) → putSaid w c ≡ accepted tt →
       WriterRun (putLeaves w c) (calls ++ c ∷ []) out
   takes :
-      {w : Writer} {calls : List Call} {out : List ℕ} → WriterRun w calls out → (v : ℕ) → taken bitRoom (w .pending) ≡ v ∷ [] →
+      {w : Writer} {calls : List Call} {out : List ℕ} → WriterRun w calls out →
+      (v : ℕ) → taken bitRoom (w .pending) ≡ v ∷ [] →
       WriterRun (nextLeaves w) calls (out ++ v ∷ [])
   finds-none :
       {w : Writer} {calls : List Call} {out : List ℕ} → WriterRun w calls out → taken bitRoom (w .pending) ≡ [] →
@@ -46,7 +48,8 @@ pub data Text : List ℕ → Type 0 where
 abbrev pub written : List ℕ → ℕ → List Call
 written text n = map byte text ++ closing n ∷ []
 
--- Calls through a fresh writer, every one accepted and every bit taken out, and those bits through a fresh reader, every one accepted.
+-- Calls through a fresh writer, every one accepted and every bit taken out, and those bits through a fresh reader,
+-- every one accepted.
 pub record Relayed (calls : List Call) : Type 0 where
   pub writer : Writer
   pub reader : Reader

@@ -65,7 +65,10 @@ unfoldable pub putLeaves : Writer → Call → Writer
 unfolding tooMany bitsPut firstAfter
 putLeaves w c =
     cond (tooMany w c) w
-    (record { pending = putAll bitRoom (readAs bitRoom (w .pending)) (bitsPut (w .first) c); first = firstAfter (w .first) c })
+    (record {
+      pending = putAll bitRoom (readAs bitRoom (w .pending)) (bitsPut (w .first) c);
+      first = firstAfter (w .first) c;
+    })
 
 -- the writer after its next bit is taken out
 abbrev pub nextLeaves : Writer → Writer

@@ -1,4 +1,5 @@
--- Tests that antt computes: that two lists are equal, and that a rule holds at all entries of a table. Over any list and test. Assumes nothing.
+-- Tests that antt computes: that two lists are equal, and that a rule holds at all entries of a table. Over any list and test.
+-- Assumes nothing.
 use mathlib.Core.Bool.{Bool, true, false, _&&_}
 use mathlib.Core.List.{List, [], _∷_}
 use mathlib.Core.Path.{_≡_, refl, ap₂, subst}

@@ -1,5 +1,5 @@
--- Martinez's table (1998): the word of each byte below 128, written in binary. Each begins with 1, so that the number tells the word and its
--- length. Definitions only.
+-- Martinez's table (1998): the word of each byte below 128, written in binary. Each begins with 1, so that the number
+-- tells the word and its length. Definitions only.
 use mathlib.Core.List.{List, [], _∷_}
 use Prim.Native.Nat.{ℕ}
 

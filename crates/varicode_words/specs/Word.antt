@@ -42,7 +42,7 @@ abbrev pub letterSaid : Letter → List ℕ
 letterSaid (letter.Byte b) = b ∷ []
 letterSaid letter.Nothing = []
 
--- the place of the first word of a list, counted from k, that has these bits and this length; none where there is no such word
+-- the place of the first word of a list, counted from k, that has these bits and this length, if there is one
 unfoldable pub found : List ℕ → ℕ → ℕ → ℕ → List ℕ
 unfolding lengthOf
 found [] k bits len = []

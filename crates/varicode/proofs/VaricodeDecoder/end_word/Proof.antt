@@ -27,7 +27,9 @@ not-done-requires : tie.Need-not-done-requires
 not-done-requires c κs = search needs
 
 -- what the look-up said of the letter that it found, or of nothing, by the length without the trailing zero
-looked-up : {l found : Letter} (bits : ℕ) {short len : ℕ} → letterSaid l ≡ decodeOf bits short → l ≡ found → short ≡ len → letterSaid found ≡ decodeOf bits len
+looked-up :
+    {l found : Letter} (bits : ℕ) {short len : ℕ} → letterSaid l ≡ decodeOf bits short → l ≡ found → short ≡ len →
+    letterSaid found ≡ decodeOf bits len
 looked-up bits said is less = sym (ap letterSaid is) ∙ said ∙ ap (decodeOf bits) less
 
 returns : tie.Need-returns
@@ -38,7 +40,8 @@ returns c =
     let looked : tie.After-varicode-decode = search in
     let less : tie.After-one-less = search in
     let start : tie.Start = search in
-    feeds-full (start .args .self) _ (start .pre) _ (looked-up _ (looked .varicode-decode .ensures) (letter .c .given .1) (less .one-less .ensures)) _
+    feeds-full (start .args .self) _ (start .pre) _
+    (looked-up _ (looked .varicode-decode .ensures) (letter .c .given .1) (less .one-less .ensures)) _
     (queue .read .ensures) (full .if1 .taken) (c .not-done .ensures) refl
 
 put-requires : tie.Need-put-requires
@@ -64,7 +67,8 @@ returns-2 c =
     let looked : tie.After-varicode-decode = search in
     let less : tie.After-one-less = search in
     let start : tie.Start = search in
-    feeds-byte (start .args .self) _ (start .pre) _ (looked-up _ (looked .varicode-decode .ensures) (letter .c .given .1) (less .one-less .ensures)) _
+    feeds-byte (start .args .self) _ (start .pre) _
+    (looked-up _ (looked .varicode-decode .ensures) (letter .c .given .1) (less .one-less .ensures)) _
     (queue .read .ensures) (free .if1 .left) _ (put .put .ensures) refl (c .forgotten .ensures)
 
 returns-3 : tie.Need-returns-3
