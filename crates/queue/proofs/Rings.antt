@@ -82,7 +82,8 @@ module _ {cap : ℕ} {r : Ring} (w : Whole cap r) (room : r .count < cap) (v : �
       let at : ℕ = (r .head + r .count) % cap in
       let within : at < length (r .slots) = rw (w .size) (mod-lt (r .head + r .count) (omega arith)) in
       let others = elements-set cap (r .slots) v (r .head) (r .count) (r .count) (w .head) (omega arith) room in
-      rw (add-one (r .count), elements-snoc cap (set (r .slots) at v) (r .head) (r .count) (w .head), others, getD-set-same (r .slots) at v 0 within)
+      let last = elements-snoc cap (set (r .slots) at v) (r .head) (r .count) (w .head) in
+      rw (add-one (r .count), last, others, getD-set-same (r .slots) at v 0 within)
 
 pub put-all-append : (cap : ℕ) (r : Ring) (xs ys : List ℕ) → putAll cap r (xs ++ ys) ≡ putAll cap (putAll cap r xs) ys
 unfolding putAll

@@ -1,6 +1,5 @@
--- Of each function, any two outcomes that its contract allows are equal. `Post` is the contract: of what the call is given, what it returns, and what it
--- leaves in each argument. `bits` and `chars` tell two
--- queues apart, field by field. Assumes nothing.
+-- Of each function, any two outcomes that its contract allows are equal. `Post` is the contract: of what the call is given, what it
+-- returns, and what it leaves in each argument. `bits` and `chars` tell two queues apart, field by field. Assumes nothing.
 use mathlib.Core.Path.{_≡_, sym, ap, _∙_}
 use Prim.Native.Nat.{ℕ}
 use Rattle.queue.specs.declared.BitQueue.{BitQueue}
@@ -49,7 +48,8 @@ pub bit-put-run-determined :
 bit-put-run-determined κs given r r' left left' p q = bits-told r r' (p ∙ sym q)
 
 pub bit-put-word-determined :
-    (κs : _) (given : _) (r r' : BitQueue) (left left' : _) → bit-put-word.Post κs given r left → bit-put-word.Post κs given r' left' → r ≡ r'
+    (κs : _) (given : _) (r r' : BitQueue) (left left' : _) →
+    bit-put-word.Post κs given r left → bit-put-word.Post κs given r' left' → r ≡ r'
 bit-put-word-determined κs given r r' left left' p q = bits-told r r' (p ∙ sym q)
 
 pub bit-front-determined :

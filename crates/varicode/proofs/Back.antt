@@ -46,7 +46,8 @@ byte-read b h tail =
     let word = wordOf b in
     let size = length-digits (lengthOf word) word in
     let same : value (digits (lengthOf word) word) ≡ word = value-digits (lengthOf word) word ∙ mod-eq-of-lt (word-sized b h) in
-    word-read (digits (lengthOf word) word) tail (no-gap (word-rule b h)) (digits-bits (lengthOf word) word) (omega (arith, size, word-length b h .1))
+    word-read (digits (lengthOf word) word) tail (no-gap (word-rule b h)) (digits-bits (lengthOf word) word)
+    (omega (arith, size, word-length b h .1))
     ∙ rw (same, size, word-decodes b h)
 
 text-read : {text : List ℕ} → Text text → (n : ℕ) → lettersFrom nothingHeard (streamFrom true (written text n)) ≡ text

@@ -24,7 +24,9 @@ pub read-within : (q p : Ring) → q ≡ readAs bitRoom p → Room bitRoom q 0
 read-within q p e = rw e (read-room (lit< tt) p)
 
 -- what fits has room, the gap and then the rest
-module _ (q p : Ring) (zeros n : ℕ) (test : Bool) (read : q ≡ readAs bitRoom p) (tested : test ≡ leb (q .count + (zeros + n)) bitRoom) (yes : test ≡ true) where
+module _
+    (q p : Ring) (zeros n : ℕ) (test : Bool) (read : q ≡ readAs bitRoom p) (tested : test ≡ leb (q .count + (zeros + n)) bitRoom)
+    (yes : test ≡ true) where
   enough : q .count + (zeros + n) ≤ bitRoom
   enough = leb-true _ _ (sym tested ∙ yes)
 
@@ -84,7 +86,9 @@ length-byte first b =
     length-append (gap first) (bitsOf (wordOf b)) ∙ ap (λ (k : ℕ). length (gap first) + k) (length-digits (lengthOf (wordOf b)) (wordOf b))
 
 -- a gap of as many zeros as it is long, and then the rest
-spaced : (first : Bool) (q : Ring) (xs : List ℕ) → putAll bitRoom (putAll bitRoom q (replicate (length (gap first)) 0)) xs ≡ putAll bitRoom q (gap first ++ xs)
+spaced :
+    (first : Bool) (q : Ring) (xs : List ℕ) →
+    putAll bitRoom (putAll bitRoom q (replicate (length (gap first)) 0)) xs ≡ putAll bitRoom q (gap first ++ xs)
 spaced first q xs = rw (gap-zeros first) (sym (put-all-append bitRoom q (gap first) xs))
 
 pub closing-put :
@@ -94,7 +98,8 @@ unfolding bitsPut
 closing-put first n zeros q new mid z m e = e ∙ rw (m, z) (spaced first q (replicate n 1))
 
 pub byte-put :
-    (first : Bool) (b zeros word len : ℕ) (q new : Ring) (mid : Ring) → zeros ≡ length (gap first) → word ≡ wordOf b → len ≡ lengthOf (wordOf b) →
-    mid ≡ putAll bitRoom q (replicate zeros 0) → new ≡ putAll bitRoom mid (digits len word) → new ≡ putAll bitRoom q (bitsPut first (byte b))
+    (first : Bool) (b zeros word len : ℕ) (q new : Ring) (mid : Ring) → zeros ≡ length (gap first) → word ≡ wordOf b →
+    len ≡ lengthOf (wordOf b) → mid ≡ putAll bitRoom q (replicate zeros 0) → new ≡ putAll bitRoom mid (digits len word) →
+    new ≡ putAll bitRoom q (bitsPut first (byte b))
 unfolding bitsPut bitsOf
 byte-put first b zeros word len q new mid z f g m e = e ∙ rw (m, z, f, g) (spaced first q (digits (lengthOf (wordOf b)) (wordOf b)))

@@ -1,5 +1,5 @@
--- Of each entry, any two outcomes that its contract allows are equal. `Post` is the contract: of what the call is given, what it returns, and what it
--- leaves in each argument. `writer` and `reader` tell two records apart, field by field. Assumes nothing.
+-- Of each entry, any two outcomes that its contract allows are equal. `Post` is the contract: of what the call is given, what it returns,
+-- and what it leaves in each argument. `writer` and `reader` tell two records apart, field by field. Assumes nothing.
 use mathlib.Core.Path.{_≡_, ap, ap₂, sym, _∙_}
 use Rattle.refusal.proofs.Told.{done-told}
 use Rattle.refusal.specs.declared.Put.{Put}
@@ -34,23 +34,28 @@ taken-told taking.Nothing taking.Nothing e = cc
 
 -- the record that a writer is
 abbrev encoderOf : Writer → VaricodeEncoder
-encoderOf w = record { pending = record { slots = w .pending .slots; head = w .pending .head; count = w .pending .count }; first = w .first }
+encoderOf w =
+    record { pending = record { slots = w .pending .slots; head = w .pending .head; count = w .pending .count }; first = w .first }
 
 pub writer-told : (d e : VaricodeEncoder) → writer d ≡ writer e → d ≡ e
 writer-told d e = ap encoderOf
 
 pub new-encoder-determined :
-    (κs : _) (given : _) (r r' : VaricodeEncoder) (left left' : _) → new-encoder.Post κs given r left → new-encoder.Post κs given r' left' → r ≡ r'
+    (κs : _) (given : _) (r r' : VaricodeEncoder) (left left' : _) →
+    new-encoder.Post κs given r left → new-encoder.Post κs given r' left' → r ≡ r'
 new-encoder-determined κs given r r' left left' p q = writer-told r r' (p ∙ sym q)
 
 abbrev wrote : Put → VaricodeEncoder → Wrote
 wrote a e = record { answer = a; encoder = e }
 
 puts-determined : (e : VaricodeEncoder) (c : Call) (r r' : Wrote) → Puts e c r → Puts e c r' → r ≡ r'
-puts-determined e c r r' p q = ap₂ wrote (done-told (r .answer) (r' .answer) (p .answer ∙ sym (q .answer))) (writer-told (r .encoder) (r' .encoder) (p .state ∙ sym (q .state)))
+puts-determined e c r r' p q =
+    ap₂ wrote (done-told (r .answer) (r' .answer) (p .answer ∙ sym (q .answer)))
+    (writer-told (r .encoder) (r' .encoder) (p .state ∙ sym (q .state)))
 
 pub push-preamble-determined :
-    (κs : _) (given : _) (r r' : Wrote) (left left' : _) → push-preamble.Post κs given r left → push-preamble.Post κs given r' left' → r ≡ r'
+    (κs : _) (given : _) (r r' : Wrote) (left left' : _) →
+    push-preamble.Post κs given r left → push-preamble.Post κs given r' left' → r ≡ r'
 push-preamble-determined κs given r r' left left' p q = puts-determined _ _ r r' p q
 
 pub push-byte-determined :
@@ -58,7 +63,8 @@ pub push-byte-determined :
 push-byte-determined κs given r r' left left' p q = puts-determined _ _ r r' p q
 
 pub push-postamble-determined :
-    (κs : _) (given : _) (r r' : Wrote) (left left' : _) → push-postamble.Post κs given r left → push-postamble.Post κs given r' left' → r ≡ r'
+    (κs : _) (given : _) (r r' : Wrote) (left left' : _) →
+    push-postamble.Post κs given r left → push-postamble.Post κs given r' left' → r ≡ r'
 push-postamble-determined κs given r r' left left' p q = puts-determined _ _ r r' p q
 
 abbrev nextBit : Taken → VaricodeEncoder → NextBit
@@ -66,7 +72,9 @@ nextBit a e = record { answer = a; encoder = e }
 
 pub next-bit-determined :
     (κs : _) (given : _) (r r' : NextBit) (left left' : _) → next-bit.Post κs given r left → next-bit.Post κs given r' left' → r ≡ r'
-next-bit-determined κs given r r' left left' p q = ap₂ nextBit (taken-told (r .answer) (r' .answer) (p .answer ∙ sym (q .answer))) (writer-told (r .encoder) (r' .encoder) (p .state ∙ sym (q .state)))
+next-bit-determined κs given r r' left left' p q =
+    ap₂ nextBit (taken-told (r .answer) (r' .answer) (p .answer ∙ sym (q .answer)))
+    (writer-told (r .encoder) (r' .encoder) (p .state ∙ sym (q .state)))
 
 -- ---- the reader
 
@@ -84,7 +92,8 @@ pub reader-told : (d e : VaricodeDecoder) → reader d ≡ reader e → d ≡ e
 reader-told d e = ap decoderOf
 
 pub new-decoder-determined :
-    (κs : _) (given : _) (r r' : VaricodeDecoder) (left left' : _) → new-decoder.Post κs given r left → new-decoder.Post κs given r' left' → r ≡ r'
+    (κs : _) (given : _) (r r' : VaricodeDecoder) (left left' : _) →
+    new-decoder.Post κs given r left → new-decoder.Post κs given r' left' → r ≡ r'
 new-decoder-determined κs given r r' left left' p q = reader-told r r' (p ∙ sym q)
 
 abbrev fed : Put → VaricodeDecoder → Fed
@@ -92,11 +101,15 @@ fed a d = record { answer = a; decoder = d }
 
 pub push-bit-determined :
     (κs : _) (given : _) (r r' : Fed) (left left' : _) → push-bit.Post κs given r left → push-bit.Post κs given r' left' → r ≡ r'
-push-bit-determined κs given r r' left left' p q = ap₂ fed (done-told (r .answer) (r' .answer) (p .answer ∙ sym (q .answer))) (reader-told (r .decoder) (r' .decoder) (p .state ∙ sym (q .state)))
+push-bit-determined κs given r r' left left' p q =
+    ap₂ fed (done-told (r .answer) (r' .answer) (p .answer ∙ sym (q .answer)))
+    (reader-told (r .decoder) (r' .decoder) (p .state ∙ sym (q .state)))
 
 abbrev nextChar : Taken → VaricodeDecoder → NextChar
 nextChar a d = record { answer = a; decoder = d }
 
 pub pop-char-determined :
     (κs : _) (given : _) (r r' : NextChar) (left left' : _) → pop-char.Post κs given r left → pop-char.Post κs given r' left' → r ≡ r'
-pop-char-determined κs given r r' left left' p q = ap₂ nextChar (taken-told (r .answer) (r' .answer) (p .answer ∙ sym (q .answer))) (reader-told (r .decoder) (r' .decoder) (p .state ∙ sym (q .state)))
+pop-char-determined κs given r r' left left' p q =
+    ap₂ nextChar (taken-told (r .answer) (r' .answer) (p .answer ∙ sym (q .answer)))
+    (reader-told (r .decoder) (r' .decoder) (p .state ∙ sym (q .state)))

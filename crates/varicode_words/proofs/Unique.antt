@@ -1,5 +1,5 @@
--- Of each entry, any two outcomes that its contract allows are equal. `Post` is the contract: of what the call is given, what it returns, and what it
--- leaves in each argument. Assumes nothing.
+-- Of each entry, any two outcomes that its contract allows are equal. `Post` is the contract: of what the call is given, what it returns,
+-- and what it leaves in each argument. Assumes nothing.
 use mathlib.Core.Path.{_≡_, ap₂, sym, _∙_}
 use Prim.Native.Nat.{ℕ}
 use Rattle.varicode_words.specs.declared.Letter.{Letter}
@@ -13,7 +13,8 @@ abbrev made : ℕ → ℕ → Word
 made b n = record { bits = b; len = n }
 
 pub varicode-encode-determined :
-    (κs : _) (given : _) (r r' : Word) (left left' : _) → varicode-encode.Post κs given r left → varicode-encode.Post κs given r' left' → r ≡ r'
+    (κs : _) (given : _) (r r' : Word) (left left' : _) →
+    varicode-encode.Post κs given r left → varicode-encode.Post κs given r' left' → r ≡ r'
 varicode-encode-determined κs given r r' left left' p q = ap₂ made (p .bits ∙ sym (q .bits)) (p .len ∙ sym (q .len))
 
 -- an answer is fixed by what is said of it
@@ -24,5 +25,6 @@ letter-told letter.Nothing (letter.Byte n) e = cc
 letter-told letter.Nothing letter.Nothing e = cc
 
 pub varicode-decode-determined :
-    (κs : _) (given : _) (r r' : Letter) (left left' : _) → varicode-decode.Post κs given r left → varicode-decode.Post κs given r' left' → r ≡ r'
+    (κs : _) (given : _) (r r' : Letter) (left left' : _) →
+    varicode-decode.Post κs given r left → varicode-decode.Post κs given r' left' → r ≡ r'
 varicode-decode-determined κs given r r' left left' p q = letter-told r r' (p ∙ sym q)

@@ -11,21 +11,6 @@ use Rattle.varicode.proofs.Takes.{room-for-one}
 use Rattle.varicode.proofs.VaricodeDecoder.end_word.Statement.{statement}
 use Rattle.varicode.proofs.VaricodeDecoder.end_word.Tie as tie
 
-one-less-requires : tie.Need-one-less-requires
-one-less-requires c κs = search needs
-
-varicode-decode-requires : tie.Need-varicode-decode-requires
-varicode-decode-requires c κs = search needs
-
-enum-known-c : tie.Need-enum-known-c
-enum-known-c c = search needs
-
-read-requires : tie.Need-read-requires
-read-requires c κs = search needs
-
-not-done-requires : tie.Need-not-done-requires
-not-done-requires c κs = search needs
-
 -- what the look-up said of the letter that it found, or of nothing, by the length without the trailing zero
 looked-up :
     {l found : Letter} (bits : ℕ) {short len : ℕ} → letterSaid l ≡ decodeOf bits short → l ≡ found → short ≡ len →
@@ -48,15 +33,6 @@ put-requires : tie.Need-put-requires
 put-requires c κs =
     let queue : tie.After-read = search in
     room-for-one charRoom (lit< tt) _ _ (queue .read .ensures) (c .if1 .left)
-
-forgotten-requires : tie.Need-forgotten-requires
-forgotten-requires c κs = search needs
-
-enum-told : tie.Need-enum-told
-enum-told c = search needs
-
-forgotten-requires-2 : tie.Need-forgotten-requires-2
-forgotten-requires-2 c κs = search needs
 
 returns-2 : tie.Need-returns-2
 returns-2 c =
@@ -81,4 +57,18 @@ returns-3 c =
     (looked-up _ (looked .varicode-decode .ensures) (letter .enum-told .given .1) (less .one-less .ensures)) refl (c .forgotten2 .ensures)
 
 pub end-word-spec : {M : Type 1} → statement M
-end-word-spec = tie.close (tie.spec one-less-requires varicode-decode-requires enum-known-c read-requires not-done-requires returns put-requires forgotten-requires enum-told forgotten-requires-2 returns-2 returns-3)
+end-word-spec =
+    tie.close
+    (tie.spec
+    (search needs)
+    (search needs)
+    (search needs)
+    (search needs)
+    (search needs)
+    returns
+    put-requires
+    (search needs)
+    (search needs)
+    (search needs)
+    returns-2
+    returns-3)

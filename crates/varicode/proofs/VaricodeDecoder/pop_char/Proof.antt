@@ -11,35 +11,41 @@ use Rattle.varicode.proofs.Takes.{within, taken-nothing, left-whole, ho
 use Rattle.varicode.proofs.VaricodeDecoder.pop_char.Statement.{statement}
 use Rattle.varicode.proofs.VaricodeDecoder.pop_char.Tie as tie
 
-read-requires : tie.Need-read-requires
-read-requires c κs = search needs
-
 abbrev made : Heard → Ring → Reader
 made h p = record { heard = h; chars = p }
 
 returns : tie.Need-returns
 returns c =
-    let read = c .before .before .read .ensures in
-    let args = c .before .before .before .before .args in
+    let queue : tie.After-read = search in
+    let start : tie.Start = search in
+    let read = queue .read .ensures in
     record {
       answer = sym (taken-nothing charRoom (lit< tt) _ _ read (c .if1 .taken));
-      state = ap (made (reader (args .self) .heard)) (sym (left-whole charRoom (lit< tt) _ _ read (c .if1 .taken)));
+      state = ap (made (reader (start .args .self) .heard)) (sym (left-whole charRoom (lit< tt) _ _ read (c .if1 .taken)));
     }
 
 rest-requires : tie.Need-rest-requires
-rest-requires c κs = holds-some charRoom (lit< tt) _ _ (c .before .before .read .ensures) (c .if1 .left)
+rest-requires c κs =
+    let queue : tie.After-read = search in
+    holds-some charRoom (lit< tt) _ _ (queue .read .ensures) (c .if1 .left)
 
 front-requires : tie.Need-front-requires
-front-requires c κs = within charRoom (lit< tt) _ _ (c .before .before .before .read .ensures)
+front-requires c κs =
+    let queue : tie.After-read = search in
+    within charRoom (lit< tt) _ _ (queue .read .ensures)
 
 returns-2 : tie.Need-returns-2
 returns-2 c =
-    let read = c .before .before .before .before .read .ensures in
-    let args = c .before .before .before .before .before .before .args in
+    let others : tie.After-rest = search in
+    let some : tie.Else1 = search in
+    let queue : tie.After-read = search in
+    let start : tie.Start = search in
+    let read = queue .read .ensures in
+    let heard = reader (start .args .self) .heard in
     record {
-      answer = ap (λ (v : ℕ). v ∷ []) (c .front .ensures) ∙ sym (taken-front charRoom (lit< tt) _ _ read (c .before .before .if1 .left));
-      state = ap (made (reader (args .self) .heard)) (c .before .rest .ensures ∙ sym (left-rest charRoom (lit< tt) _ _ read (c .before .before .if1 .left)));
+      answer = ap (λ (v : ℕ). v ∷ []) (c .front .ensures) ∙ sym (taken-front charRoom (lit< tt) _ _ read (some .if1 .left));
+      state = ap (made heard) (others .rest .ensures ∙ sym (left-rest charRoom (lit< tt) _ _ read (some .if1 .left)));
     }
 
 pub pop-char-spec : {M : Type 1} → statement M
-pop-char-spec = tie.close (tie.spec read-requires returns rest-requires front-requires returns-2)
+pop-char-spec = tie.close (tie.spec (search needs) returns rest-requires front-requires returns-2)

@@ -7,27 +7,25 @@ use Rattle.varicode.proofs.Bits.{feeds-bad, feeds-joined}
 use Rattle.varicode.proofs.VaricodeDecoder.push_bit.Statement.{statement}
 use Rattle.varicode.proofs.VaricodeDecoder.push_bit.Tie as tie
 
-not-done-requires : tie.Need-not-done-requires
-not-done-requires c κs = search needs
-
 returns : tie.Need-returns
-returns c = feeds-bad (c .before .before .args .self) _ _ (c .before .if1 .taken) (c .not-done .ensures) refl
-
-end-word-requires : tie.Need-end-word-requires
-end-word-requires c κs = search needs
+returns c =
+    let above : tie.Then1 = search in
+    let start : tie.Start = search in
+    feeds-bad (start .args .self) _ _ (above .if1 .taken) (c .not-done .ensures) refl
 
 returns-2 : tie.Need-returns-2
-returns-2 c = rw (c .before .before .if2 .taken) (c .end-word .ensures)
-
-joined-requires : tie.Need-joined-requires
-joined-requires c κs = search needs
+returns-2 c =
+    let zero : tie.Then2 = search in
+    rw (zero .if2 .taken) (c .end-word .ensures)
 
 returns-3 : tie.Need-returns-3
 returns-3 c =
-    let args = c .before .before .before .args in
-    feeds-joined (args .self) (args .bit) _ (c .before .before .if1 .left)
-    (⊎-elim (λ w. rw (eq-eqb _ _ (w .0 .taken)) (w .1 .left)) (λ w. rw (ne-eqb _ _ (w .left))) (c .before .if2 .came))
+    let goes-on : tie.Joined2 = search in
+    let bit : tie.Else1 = search in
+    let start : tie.Start = search in
+    feeds-joined (start .args .self) (start .args .bit) _ (bit .if1 .left)
+    (⊎-elim (λ w. rw (eq-eqb _ _ (w .0 .taken)) (w .1 .left)) (λ w. rw (ne-eqb _ _ (w .left))) (goes-on .if2 .came))
     refl (c .joined .ensures)
 
 pub push-bit-spec : {M : Type 1} → statement M
-push-bit-spec = tie.close (tie.spec not-done-requires returns end-word-requires returns-2 joined-requires returns-3)
+push-bit-spec = tie.close (tie.spec (search needs) returns (λ c κs. search needs) returns-2 (λ c κs. search needs) returns-3)

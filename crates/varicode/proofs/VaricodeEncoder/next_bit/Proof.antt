@@ -11,35 +11,40 @@ use Rattle.varicode.proofs.Takes.{within, taken-nothing, left-whole, ho
 use Rattle.varicode.proofs.VaricodeEncoder.next_bit.Statement.{statement}
 use Rattle.varicode.proofs.VaricodeEncoder.next_bit.Tie as tie
 
-read-requires : tie.Need-read-requires
-read-requires c κs = search needs
-
 abbrev made : Bool → Ring → Writer
 made first p = record { pending = p; first = first }
 
 returns : tie.Need-returns
 returns c =
-    let read = c .before .before .read .ensures in
-    let args = c .before .before .before .before .args in
+    let queue : tie.After-read = search in
+    let start : tie.Start = search in
+    let read = queue .read .ensures in
     record {
       answer = sym (taken-nothing bitRoom (lit< tt) _ _ read (c .if1 .taken));
-      state = ap (made (args .self .first)) (sym (left-whole bitRoom (lit< tt) _ _ read (c .if1 .taken)));
+      state = ap (made (start .args .self .first)) (sym (left-whole bitRoom (lit< tt) _ _ read (c .if1 .taken)));
     }
 
 rest-requires : tie.Need-rest-requires
-rest-requires c κs = holds-some bitRoom (lit< tt) _ _ (c .before .before .read .ensures) (c .if1 .left)
+rest-requires c κs =
+    let queue : tie.After-read = search in
+    holds-some bitRoom (lit< tt) _ _ (queue .read .ensures) (c .if1 .left)
 
 front-requires : tie.Need-front-requires
-front-requires c κs = within bitRoom (lit< tt) _ _ (c .before .before .before .read .ensures)
+front-requires c κs =
+    let queue : tie.After-read = search in
+    within bitRoom (lit< tt) _ _ (queue .read .ensures)
 
 returns-2 : tie.Need-returns-2
 returns-2 c =
-    let read = c .before .before .before .before .read .ensures in
-    let args = c .before .before .before .before .before .before .args in
+    let others : tie.After-rest = search in
+    let some : tie.Else1 = search in
+    let queue : tie.After-read = search in
+    let start : tie.Start = search in
+    let read = queue .read .ensures in
     record {
-      answer = ap (λ (v : ℕ). v ∷ []) (c .front .ensures) ∙ sym (taken-front bitRoom (lit< tt) _ _ read (c .before .before .if1 .left));
-      state = ap (made (args .self .first)) (c .before .rest .ensures ∙ sym (left-rest bitRoom (lit< tt) _ _ read (c .before .before .if1 .left)));
+      answer = ap (λ (v : ℕ). v ∷ []) (c .front .ensures) ∙ sym (taken-front bitRoom (lit< tt) _ _ read (some .if1 .left));
+      state = ap (made (start .args .self .first)) (others .rest .ensures ∙ sym (left-rest bitRoom (lit< tt) _ _ read (some .if1 .left)));
     }
 
 pub next-bit-spec : {M : Type 1} → statement M
-next-bit-spec = tie.close (tie.spec read-requires returns rest-requires front-requires returns-2)
+next-bit-spec = tie.close (tie.spec (search needs) returns rest-requires front-requires returns-2)

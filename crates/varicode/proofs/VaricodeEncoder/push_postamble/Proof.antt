@@ -8,45 +8,66 @@ use Rattle.varicode.proofs.Puts.{read-within, gap-room, rest-room, puts
 use Rattle.varicode.proofs.VaricodeEncoder.push_postamble.Statement.{statement}
 use Rattle.varicode.proofs.VaricodeEncoder.push_postamble.Tie as tie
 
-gap-len-requires : tie.Need-gap-len-requires
-gap-len-requires c κs = search needs
-
-read-requires : tie.Need-read-requires
-read-requires c κs = search needs
-
 fits-requires : tie.Need-fits-requires
 fits-requires c κs = omega (arith, read-within _ _ (c .read .ensures) .count)
 
 put-run-requires : tie.Need-put-run-requires
 put-run-requires c κs =
-    gap-room _ _ (c .before .before .before .before .gap-len .result) (c .before .before .before .before .before .args .n) _ (c .before .before .read .ensures) (c .before .fits2 .ensures) (c .if1 .taken)
+    let tested : tie.After-fits2 = search in
+    let queue : tie.After-read = search in
+    let gap : tie.After-gap-len = search in
+    let start : tie.Start = search in
+    gap-room _ _ (gap .gap-len .result) (start .args .n) _ (queue .read .ensures) (tested .fits2 .ensures) (c .if1 .taken)
 
 put-run-requires-2 : tie.Need-put-run-requires-2
 put-run-requires-2 c κs =
-    rest-room _ _ (c .before .before .before .before .before .gap-len .result) (c .before .before .before .before .before .before .args .n) _ (c .before .before .before .read .ensures) (c .before .before .fits2 .ensures) (c .before .if1 .taken) _ (c .put-run .ensures)
-
-done-requires : tie.Need-done-requires
-done-requires c κs = search needs
+    let fit : tie.Then1 = search in
+    let tested : tie.After-fits2 = search in
+    let queue : tie.After-read = search in
+    let gap : tie.After-gap-len = search in
+    let start : tie.Start = search in
+    rest-room _ _ (gap .gap-len .result) (start .args .n) _ (queue .read .ensures) (tested .fits2 .ensures)
+    (fit .if1 .taken) _ (c .put-run .ensures)
 
 returns : tie.Need-returns
 unfolding firstAfter
 returns c =
-    let args = c .before .before .before .before .before .before .before .before .args in
-    let gap = c .before .before .before .before .before .before .before .gap-len .ensures in
-    puts-done (args .self) (closing (args .n)) _ _ (c .before .before .before .before .before .before .before .gap-len .result) (args .n) _ (c .before .before .before .before .before .read .ensures)
-    (length-closing (args .self .first) (args .n) ∙ ap (λ (k : ℕ). k + args .n) (sym gap))
-    (c .before .before .before .before .fits2 .ensures) (c .before .before .before .if1 .taken) _
-    (closing-put (args .self .first) (args .n) _ _ _ _ gap (c .before .before .put-run .ensures) (c .before .put-run2 .ensures)) (c .done .ensures)
-
-refused-requires : tie.Need-refused-requires
-refused-requires c κs = search needs
+    let ones : tie.After-put-run2 = search in
+    let spaced : tie.After-put-run = search in
+    let fit : tie.Then1 = search in
+    let tested : tie.After-fits2 = search in
+    let queue : tie.After-read = search in
+    let gap : tie.After-gap-len = search in
+    let start : tie.Start = search in
+    let args = start .args in
+    puts-done (args .self) (closing (args .n)) _ _ (gap .gap-len .result) (args .n) _ (queue .read .ensures)
+    (length-closing (args .self .first) (args .n) ∙ ap (λ (k : ℕ). k + args .n) (sym (gap .gap-len .ensures)))
+    (tested .fits2 .ensures) (fit .if1 .taken) _
+    (closing-put (args .self .first) (args .n) _ _ _ _ (gap .gap-len .ensures) (spaced .put-run .ensures) (ones .put-run2 .ensures))
+    (c .done .ensures)
 
 returns-2 : tie.Need-returns-2
 returns-2 c =
-    let args = c .before .before .before .before .before .before .args in
-    puts-refused (args .self) (closing (args .n)) _ _ (c .before .before .before .before .before .gap-len .result) (args .n) _ (c .before .before .before .read .ensures)
-    (length-closing (args .self .first) (args .n) ∙ ap (λ (k : ℕ). k + args .n) (sym (c .before .before .before .before .before .gap-len .ensures)))
-    (c .before .before .fits2 .ensures) (c .before .if1 .left) (c .refused .ensures)
+    let over : tie.Else1 = search in
+    let tested : tie.After-fits2 = search in
+    let queue : tie.After-read = search in
+    let gap : tie.After-gap-len = search in
+    let start : tie.Start = search in
+    let args = start .args in
+    puts-refused (args .self) (closing (args .n)) _ _ (gap .gap-len .result) (args .n) _ (queue .read .ensures)
+    (length-closing (args .self .first) (args .n) ∙ ap (λ (k : ℕ). k + args .n) (sym (gap .gap-len .ensures)))
+    (tested .fits2 .ensures) (over .if1 .left) (c .refused .ensures)
 
 pub push-postamble-spec : {M : Type 1} → statement M
-push-postamble-spec = tie.close (tie.spec gap-len-requires read-requires fits-requires put-run-requires put-run-requires-2 done-requires returns refused-requires returns-2)
+push-postamble-spec =
+    tie.close
+    (tie.spec
+    (search needs)
+    (search needs)
+    fits-requires
+    put-run-requires
+    put-run-requires-2
+    (search needs)
+    returns
+    (search needs)
+    returns-2)

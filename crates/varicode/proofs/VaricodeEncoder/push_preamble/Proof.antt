@@ -8,37 +8,39 @@ use Rattle.varicode.proofs.Puts.{read-within, rest-room, puts-refused, 
 use Rattle.varicode.proofs.VaricodeEncoder.push_preamble.Statement.{statement}
 use Rattle.varicode.proofs.VaricodeEncoder.push_preamble.Tie as tie
 
-read-requires : tie.Need-read-requires
-read-requires c κs = search needs
-
 fits-requires : tie.Need-fits-requires
 fits-requires c κs = omega (arith, read-within _ _ (c .read .ensures) .count)
 
 put-run-requires : tie.Need-put-run-requires
 unfolding putAll
 put-run-requires c κs =
-    let n = c .before .before .before .before .args .n in
-    let room = rest-room _ _ 0 n _ (c .before .before .read .ensures) (c .before .fits2 .ensures) (c .if1 .taken) in
-    room _ refl
-
-done-requires : tie.Need-done-requires
-done-requires c κs = search needs
+    let tested : tie.After-fits2 = search in
+    let queue : tie.After-read = search in
+    let start : tie.Start = search in
+    rest-room _ _ 0 (start .args .n) _ (queue .read .ensures) (tested .fits2 .ensures) (c .if1 .taken) _ refl
 
 returns : tie.Need-returns
 unfolding bitsPut firstAfter
 returns c =
-    let args = c .before .before .before .before .before .before .args in
-    puts-done (args .self) (opening (args .n)) _ _ 0 (args .n) _ (c .before .before .before .before .read .ensures) (length-opening (args .self .first) (args .n))
-    (c .before .before .before .fits2 .ensures) (c .before .before .if1 .taken) _ (c .before .put-run .ensures) (c .done .ensures)
-
-refused-requires : tie.Need-refused-requires
-refused-requires c κs = search needs
+    let zeros : tie.After-put-run = search in
+    let fit : tie.Then1 = search in
+    let tested : tie.After-fits2 = search in
+    let queue : tie.After-read = search in
+    let start : tie.Start = search in
+    let args = start .args in
+    puts-done (args .self) (opening (args .n)) _ _ 0 (args .n) _ (queue .read .ensures) (length-opening (args .self .first) (args .n))
+    (tested .fits2 .ensures) (fit .if1 .taken) _ (zeros .put-run .ensures) (c .done .ensures)
 
 returns-2 : tie.Need-returns-2
 returns-2 c =
-    let args = c .before .before .before .before .before .args in
-    puts-refused (args .self) (opening (args .n)) _ _ 0 (args .n) _ (c .before .before .before .read .ensures) (length-opening (args .self .first) (args .n))
-    (c .before .before .fits2 .ensures) (c .before .if1 .left) (c .refused .ensures)
+    let over : tie.Else1 = search in
+    let tested : tie.After-fits2 = search in
+    let queue : tie.After-read = search in
+    let start : tie.Start = search in
+    let args = start .args in
+    puts-refused (args .self) (opening (args .n)) _ _ 0 (args .n) _ (queue .read .ensures) (length-opening (args .self .first) (args .n))
+    (tested .fits2 .ensures) (over .if1 .left) (c .refused .ensures)
 
 pub push-preamble-spec : {M : Type 1} → statement M
-push-preamble-spec = tie.close (tie.spec read-requires fits-requires put-run-requires done-requires returns refused-requires returns-2)
+push-preamble-spec =
+    tie.close (tie.spec (search needs) fits-requires put-run-requires (search needs) returns (search needs) returns-2)
