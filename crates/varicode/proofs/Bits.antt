@@ -28,19 +28,19 @@ feeds-bad d b r h a s = let bad = lt-ltb 1 b h in record { answer = a ∙ rw bad
 
 -- ---- whether the character fits
 
-no-letter-fits : (q : Ring) → noRoom [] q ≡ false
+room-for-nothing : (q : Ring) → noRoom [] q ≡ false
 unfolding noRoom
-no-letter-fits q = le-ltb charRoom (readAs charRoom q .count + 0) (omega arith)
+room-for-nothing q = le-ltb charRoom (readAs charRoom q .count + 0) (omega arith)
 
 -- of a queue that was read
 module _ (q p : Ring) (read : q ≡ readAs charRoom p) (c : ℕ) where
-  full-refuses : q .count ≡ charRoom → noRoom (c ∷ []) p ≡ true
+  no-room-when-full : q .count ≡ charRoom → noRoom (c ∷ []) p ≡ true
   unfolding noRoom
-  full-refuses full = lt-ltb charRoom (readAs charRoom p .count + 1) (omega (arith, ap (λ (r : Ring). r .count) read))
+  no-room-when-full full = lt-ltb charRoom (readAs charRoom p .count + 1) (omega (arith, ap (λ (r : Ring). r .count) read))
 
-  free-takes : (q .count ≡ charRoom → ⊥) → noRoom (c ∷ []) p ≡ false
+  room-when-free : (q .count ≡ charRoom → ⊥) → noRoom (c ∷ []) p ≡ false
   unfolding noRoom
-  free-takes free =
+  room-when-free free =
       let room = room-for-one charRoom (lit< tt) q p read free in
       le-ltb charRoom (readAs charRoom p .count + 1) (omega (arith, room .count, ap (λ (r : Ring). r .count) read))
 
@@ -55,7 +55,7 @@ module _ (d : VaricodeDecoder) (b : ℕ) (r : Fed) (bit : b ≤ 1) (goes-on : en
   unfolding bitSaid bitLeaves heardAfter
   feeds-joined a j =
       let good = le-ltb 1 b bit in
-      let free = no-letter-fits (chars (d .chars)) in
+      let free = room-for-nothing (chars (d .chars)) in
       record {
         answer = a ∙ rw (good, brings-nothing, free);
         state = ap₂ made (j .heard) (ap chars (j .chars)) ∙ rw (good, brings-nothing, free, goes-on);
@@ -91,17 +91,17 @@ module _
 module _ (d : VaricodeDecoder) (r : Fed) (zero-before : d .«prev_zero» ≡ true) where
   pub feeds-nothing :
       [] ≡ decodeOf (d .shift / 2) (d .len % 12 - 1) → doneSaid (r .answer) ≡ accepted tt → Forgets (d .chars) (r .decoder) → Feeds d 0 r
-  feeds-nothing none a f = feeds-letter d r zero-before [] none (no-letter-fits (chars (d .chars))) (d .chars) refl a f
+  feeds-nothing none a f = feeds-letter d r zero-before [] none (room-for-nothing (chars (d .chars))) (d .chars) refl a f
 
   module _
       (c : ℕ) (one : c ∷ [] ≡ decodeOf (d .shift / 2) (d .len % 12 - 1)) (q : Ring) (read : q ≡ readAs charRoom (chars (d .chars))) where
     pub feeds-full : q .count ≡ charRoom → doneSaid (r .answer) ≡ refused 9 0 → r .decoder ≡ d → Feeds d 0 r
-    feeds-full full a s = feeds-refused d r zero-before (c ∷ []) one (full-refuses q (chars (d .chars)) read c full) a s
+    feeds-full full a s = feeds-refused d r zero-before (c ∷ []) one (no-room-when-full q (chars (d .chars)) read c full) a s
 
     pub feeds-byte :
         (q .count ≡ charRoom → ⊥) → (more : CharQueue) → chars more ≡ putOne charRoom q c → doneSaid (r .answer) ≡ accepted tt →
         Forgets more (r .decoder) → Feeds d 0 r
     unfolding putAll
     feeds-byte free more put a f =
-        feeds-letter d r zero-before (c ∷ []) one (free-takes q (chars (d .chars)) read c free) more
+        feeds-letter d r zero-before (c ∷ []) one (room-when-free q (chars (d .chars)) read c free) more
         (put ∙ ap (λ (p : Ring). putOne charRoom p c) read) a f

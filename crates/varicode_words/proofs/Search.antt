@@ -46,6 +46,7 @@ module _ (i bits len : ℕ) (inside : i < 128) (r : Word) (entry : Written i r) 
 
 -- ---- at most one
 
+-- a choice of two lists of one entry at most
 pub either-few : (one more : List ℕ) → length one ≤ 1 → length more ≤ 1 → (here : Bool) → length (cond here one more) ≤ 1
 either-few one more f g true = f
 either-few one more f g false = g
