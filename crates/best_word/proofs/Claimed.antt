@@ -2,7 +2,7 @@
 use mathlib.Core.Bool.{true, false, true≢false}
 use mathlib.Core.List.{List, _++_, append-cancel-right}
 use mathlib.Core.Logic.{_⊎_, inl, inr, ⊎-elim}
-use mathlib.Core.Path.{_≡_, sym, ap, subst, _∙_}
+use mathlib.Core.Path.{_≡_, sym, ap, _∙_}
 use Prim.Native.Nat.{ℕ, _<_}
 use lib.Ieee.{Float}
 use lib.IntN.{ℤ, _+ℤ_, +ℤ-comm}
@@ -11,7 +11,7 @@ use lib.Signed.{ltZ}
 use Rattle.best_path.specs.Path.{Ahead, gained}
 use Rattle.best_path.proofs.InfoWords.{BestInfo, info-leads, best-info-word}
 use Rattle.best_path.proofs.Order.{AtMost, ltZ-total, ltZ-irrefl, at-most-not-below, at-most-antisym, at-most-rest, ahead-asym}
-use Rattle.f32s.specs.Whole.{Whole}
+use Rattle.f32s.specs.Whole.{floatOf}
 use Rattle.readings.specs.Decode.{word, score}
 use Rattle.trellis.specs.declared.ConvCode.{ConvCode}
 use Rattle.trellis.specs.Choice.{codeOf, patternOf}
@@ -66,11 +66,10 @@ module _ (code : ConvCode) (some : 0 < code .width) (p : Keep) (good : Pattern p
     decoded-first u is e =
         ⊎-elim (λ h. absurd (true≢false (sym (rw e at h) ∙ ltZ-irrefl (points decoded zs)))) (λ h. h .1) (decoded-beats u is)
 
-    decoded-scored : Whole (score code p readings info) (points decoded zs)
+    decoded-scored : score code p readings info ≡ floatOf (points decoded zs)
     decoded-scored =
-        subst (Whole (score code p readings info))
-        (sym (best-decoded .1 .best .gains-it) ∙ gained-points decoded decoded-is-word)
-        (score-whole code some p good readings zs info (exact .whole) (exact .small) (best-decoded .0) (best-decoded .1 .counted))
+        score-whole code some p good readings zs info (exact .whole) (exact .small) (best-decoded .0) (best-decoded .1 .counted)
+        ∙ ap floatOf (sym (best-decoded .1 .best .gains-it) ∙ gained-points decoded decoded-is-word)
 
   -- After the move the two words tie, and so they did before it; each time the tie rule puts the same one first.
   decoded-stays :
@@ -99,7 +98,7 @@ module _ (code : ConvCode) (some : 0 < code .width) (p : Keep) (good : Pattern p
 
 pub best-word-wins :
     (code : ConvCode) → 0 < code .width → (p : Keep) → Pattern p → (info : ℕ) (readings : List Float) (zs : List ℤ) →
-    Exact code p info readings zs → Claim code p info readings zs
+    Exact code p info readings zs → Claim code p info zs (word code p readings info) (score code p readings info)
 best-word-wins code some p good info readings zs exact =
     record {
       is-word = decoded-is-word code some p good info readings zs exact;
@@ -112,5 +111,6 @@ best-word-wins code some p good info readings zs exact =
 -- the codes and keep patterns of the tables
 pub decoded-word-wins :
     (code rate info : ℕ) (readings : List Float) (zs : List ℤ) →
-    Exact (codeOf code) (patternOf rate) info readings zs → Claim (codeOf code) (patternOf rate) info readings zs
+    Exact (codeOf code) (patternOf rate) info readings zs →
+    Claim (codeOf code) (patternOf rate) info zs (word (codeOf code) (patternOf rate) readings info) (score (codeOf code) (patternOf rate) readings info)
 decoded-word-wins code rate = best-word-wins (codeOf code) (code-narrow code .some) (patternOf rate) (rate-pattern rate)

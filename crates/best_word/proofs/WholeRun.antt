@@ -1,5 +1,5 @@
 -- Readings that are whole numbers whose sizes sum to at most 2 ^ 24 are decoded without rounding: the metrics, the survivors and the word are those of
--- the run in whole numbers, and its total at state 0 is the score. Assumes nothing.
+-- the run in whole numbers, and the score is the f32 of its total at state 0, bit for bit. Assumes nothing.
 use mathlib.Core.Bool.{Bool, true, false, not, cond}
 use mathlib.Core.List.{List, [], _∷_}
 use mathlib.Core.Path.{_≡_, refl, sym, ap, subst, _∙_}
@@ -19,9 +19,9 @@ use Rattle.best_path.specs.Path.{Total, none, total, wholes, added, isReached, 
 use Rattle.best_path.proofs.Simulation.{Simulates, mets-agree, survivors-agree, traced-agree}
 use Rattle.best_path.proofs.Start.{others-marked}
 use Rattle.f32s.specs.Single.{zero32}
-use Rattle.f32s.specs.Whole.{Whole}
+use Rattle.f32s.specs.Whole.{Whole, floatOf}
 use Rattle.f32s.proofs.Ordered.{lt-trans, lt-irrefl}
-use Rattle.f32s.proofs.Wholes.{whole-zero, whole-neg, whole-add, whole-sub, whole-lt, mark-lt-whole, whole-not-le-mark}
+use Rattle.f32s.proofs.Wholes.{whole-zero, whole-neg, whole-ofInt, whole-add, whole-sub, whole-lt, float-of-zero, ofInt-add, mark-lt-whole, whole-not-le-mark}
 use Rattle.readings.specs.Places.{valueOf, filled, place0, place1}
 use Rattle.branches.specs.Largest.{mark, largest}
 use Rattle.readings.specs.Sums.{correlation, brings, gain, started}
@@ -139,8 +139,12 @@ whole-not-lt-mark {x} w small = go (lt x mark) refl
     go true h = sym (lt-trans mark x mark (mark-lt-whole w small) h) ∙ lt-irrefl mark
     go false h = refl
 
+-- the f32 of a number within the bound is that number
+total-whole : {bound : ℕ} {x : Float} {z : ℤ} → bound ≤ 2 ^ 24 → (x ≡ floatOf z) × (natAbs z ≤ bound) → Whole x z
+total-whole {bound} {x} {z} small h = rw (h .0) (whole-ofInt binary32 z (omega (arith, h .1)))
+
 total-started : (code : ConvCode) (bound s : ℕ) → s < 2 ^ code .width → IsTotal bound (getD (started code) s mark) (getD (startedWhole code) s none)
-total-started code bound zero h = (whole-zero, omega arith)
+total-started code bound zero h = (sym float-of-zero, omega arith)
 total-started code bound (suc s) h =
     rw (others-marked wholes code (total (pos 0)) s) (others-marked largest code zero32 s)
 
@@ -151,13 +155,13 @@ total-up bound more h x (total z) k = (k .0, omega (arith, k .1))
 module _ (bound : ℕ) (small : bound ≤ 2 ^ 24) where
   total-reached : (x : Float) (m : Total) → IsTotal bound x m → not (le x mark) ≡ isReached m
   total-reached x none h = rw (h, mark-le-mark)
-  total-reached x (total z) h = ap not (whole-not-le-mark (h .0) (omega (arith, h .1)))
+  total-reached x (total z) h = ap not (whole-not-le-mark (total-whole small h) (omega (arith, h .1)))
 
   total-better : (x y : Float) (m n : Total) → IsTotal bound x m → IsTotal bound y n → lt y x ≡ larger m n
   total-better x y none none h k = rw (h, k) (lt-irrefl mark)
-  total-better x y none (total w) h k = rw h (whole-not-lt-mark (k .0) (omega (arith, k .1)))
-  total-better x y (total z) none h k = rw k (mark-lt-whole (h .0) (omega (arith, h .1)))
-  total-better x y (total z) (total w) h k = whole-lt (k .0) (h .0)
+  total-better x y none (total w) h k = rw h (whole-not-lt-mark (total-whole small k) (omega (arith, k .1)))
+  total-better x y (total z) none h k = rw k (mark-lt-whole (total-whole small h) (omega (arith, h .1)))
+  total-better x y (total z) (total w) h k = whole-lt (total-whole small k) (total-whole small h)
 
 -- ---- the steps
 
@@ -192,7 +196,7 @@ module _
   unfolding wholeGain
   gain-size t s i = correlation-size (wholePlace0 p zs t) (wholePlace1 p zs t) (c0 s i) (c1 s i)
 
-  -- the sizes of the old total and of what is read now are within those of all that is read, so the sum is exact
+  -- the old total is within what is read so far, so the sum is exact; and the old total is not -0, so neither is the sum
   total-added :
       (t s i : ℕ) → t < steps → (x : Float) (m : Total) → IsTotal (sizeRead p zs t) x m → not (le x mark) ≡ true →
       IsTotal (sizeRead p zs (suc t)) (add binary32 x (gain code p readings t s i)) (added m (wholeGain code p zs t s i))
@@ -200,7 +204,9 @@ module _
   total-added t s i within x (total z) h reached =
       let size : natAbs (z +ℤ wholeGain code p zs t s i) ≤ sizeRead p zs (suc t) =
       omega (arith, h .1, abs-add z (wholeGain code p zs t s i), gain-size t s i, size-read-suc p good zs t) in
-      (whole-add binary32 (h .0) (gain-whole t s i within) (omega (arith, read-small (suc t))), size)
+      let summed : add binary32 (floatOf z) (gain code p readings t s i) ≡ floatOf (z +ℤ wholeGain code p zs t s i) =
+      ofInt-add binary32 z (omega (arith, h .1, read-small t)) (gain-whole t s i within) in
+      (ap (λ (y : Float). add binary32 y (gain code p readings t s i)) (h .0) ∙ summed, size)
 
   simulated :
       Simulates largest wholes code (gain code p readings) (wholeGain code p zs) (started code) (startedWhole code)
@@ -245,7 +251,7 @@ module _
   unfolding word froms
   word-whole = ap (take info) (traced-agree some (simulated code some p good readings zs steps whole small) steps 0 (le-refl steps))
 
-  pub score-whole : (z : ℤ) → getD (wholeMets code p zs (stepsOf code info)) 0 none ≡ total z → Whole (score code p readings info) z
+  pub score-whole : (z : ℤ) → getD (wholeMets code p zs (stepsOf code info)) 0 none ≡ total z → score code p readings info ≡ floatOf z
   unfolding score
   score-whole z e =
       let last = mets-whole code some p good readings zs steps whole small steps 0 (le-refl steps) (pow-pos (code .width)) in

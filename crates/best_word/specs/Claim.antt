@@ -10,8 +10,8 @@ use lib.IntN.{ℤ, pos, negℤ, _+ℤ_}
 use lib.ListN.{length, getD, take}
 use lib.Signed.{ltZ}
 use Rattle.best_path.specs.Path.{passes, Ahead}
-use Rattle.f32s.specs.Whole.{Whole}
-use Rattle.readings.specs.Decode.{word, score}
+use Rattle.f32s.specs.Whole.{floatOf}
+use Rattle.readings.specs.Decode.{word}
 use Rattle.trellis.specs.declared.ConvCode.{ConvCode}
 use Rattle.trellis.specs.Codeword.{stepsOf, zeroTailed, codeword}
 use Rattle.trellis.specs.Keep.{Keep, codedLength}
@@ -47,17 +47,16 @@ module _ (code : ConvCode) (p : Keep) (info : ℕ) where
   abbrev pub statesOf : List ℕ → List ℕ
   statesOf u = passes code (zeroTailed code u) (stepsOf code info)
 
-  pub record Claim (readings : List Float) (zs : List ℤ) : Type 0 where
-    pub is-word : InfoWord info (word code p readings info)
+  -- what is claimed of a word v and a score s that came of readings which are the whole numbers zs
+  pub record Claim (zs : List ℤ) (v : List ℕ) (s : Float) : Type 0 where
+    pub is-word : InfoWord info v
     -- no equally long word's codeword agrees better
-    pub wins : (u : List ℕ) → InfoWord info u → ltZ (scoreOf (word code p readings info) zs) (scoreOf u zs) ≡ false
+    pub wins : (u : List ℕ) → InfoWord info u → ltZ (scoreOf v zs) (scoreOf u zs) ≡ false
     -- among equals it is the one that the tie rule puts first
-    pub first :
-        (u : List ℕ) → InfoWord info u → scoreOf u zs ≡ scoreOf (word code p readings info) zs →
-        (word code p readings info ≡ u) ⊎ Ahead (statesOf (word code p readings info)) (statesOf u)
-    -- the answer's score is that score
-    pub scored : Whole (score code p readings info) (scoreOf (word code p readings info) zs)
+    pub first : (u : List ℕ) → InfoWord info u → scoreOf u zs ≡ scoreOf v zs → (v ≡ u) ⊎ Ahead (statesOf v) (statesOf u)
+    -- the score is the f32 of that score, bit for bit: 0 is +0.0
+    pub scored : s ≡ floatOf (scoreOf v zs)
     -- readings moved further towards the word leave it as it is
     pub stays :
-        (others : List Float) (moved : List ℤ) → Exact code p info others moved → Towards (codeword code p (word code p readings info)) zs moved →
-        word code p others info ≡ word code p readings info
+        (others : List Float) (moved : List ℤ) → Exact code p info others moved → Towards (codeword code p v) zs moved →
+        word code p others info ≡ v

@@ -1,6 +1,7 @@
--- Floats that are whole numbers: their sums and differences are exact up to 2 ^ prec (2 ^ 24 for f32), and they compare as integers do.
--- At the end, f32::MIN / 2, the mark of what is not reached, lies below every one up to 2 ^ 24. Assumes nothing.
-use mathlib.Core.Bool.{Bool, true, false, not, cond}
+-- Floats that are whole numbers: their sums and differences are exact up to 2 ^ prec (2 ^ 24 for f32), and they compare as integers do. The float of
+-- an integer is never -0, nor is its sum with a whole float. At the end, f32::MIN / 2, the mark of what is not reached, lies below every one up to
+-- 2 ^ 24. Assumes nothing.
+use mathlib.Core.Bool.{Bool, true, false, not, true≢false}
 use mathlib.Core.Logic.{_≢_}
 use mathlib.Core.Path.{_≡_, refl, sym, ap, ap₂, _∙_}
 use Prim.Native.Nat.{ℕ, zero, suc, _+_, _-_, _*_, _^_, _≤_, _<_}
@@ -16,7 +17,7 @@ use lib.Ieee.Exact.{HasValue}
 use lib.Ieee.Back as Back
 use lib.Ieee.Scale.{round-same}
 use Rattle.f32s.proofs.Ordered.{ltb-scale, below-scale, le-is-not-lt}
-use Rattle.f32s.specs.Whole.{withSign, IsWhole, Whole}
+use Rattle.f32s.specs.Whole.{withSign, IsWhole, Whole, floatOf}
 
 -- ---- the size and the sign of an integer that is ±n / c
 
@@ -125,35 +126,104 @@ second-larger : (s : Bool) (a b : ℕ) → a ≤ b → withSign s a +ℤ withSig
 second-larger false a b h = +ℤ-comm (pos a) (negℤ (pos b)) ∙ first-larger true b a h
 second-larger true a b h = +ℤ-comm (negℤ (pos a)) (pos b) ∙ first-larger false b a h
 
-value-whole : (x : Float) (s : Bool) (n : ℕ) → HasValue x s n 1 → IsWhole x (withSign s n)
-value-whole nan s n h = h
-value-whole (inf t) s n h = h
-value-whole (fin t m e) s n h = ap₂ withSign (h .0) (sym (mul-one (m * up e)) ∙ h .1) ∙ sign-mul s n (down e)
+-- -0, as a sign and a size
+abbrev MinusZero : Bool → ℕ → Type 0
+MinusZero s n = (s ≡ true) × (n ≡ 0)
 
-module _ (f : Format) (z : ℤ) (small : natAbs z ≤ 2 ^ prec f) where
-  round-exact : (s : Bool) (n : ℕ) → withSign s n ≡ z → IsWhole (round f s n 1) z
-  round-exact s n h =
-      let size : n ≡ natAbs z = sym (abs-sign s n) ∙ ap natAbs h in
-      rw (← h) (value-whole (round f s n 1) s n (Back.round-whole f s n (rw size small)))
+no-minus : {P : Type 0} → false ≡ true → P
+no-minus e = absurd (true≢false (sym e))
 
-  sum-exact : (s t : Bool) (a b : ℕ) → withSign s a +ℤ withSign t b ≡ z → IsWhole (sum f s a t b 1) z
-  unfolding sum
-  sum-exact false false a b h = round-exact false (a + b) h
-  sum-exact true true a b h = round-exact true (a + b) (negℤ-+ℤ (pos a) (pos b) ∙ h)
-  sum-exact false true a b h = go (ltb a b) refl
-    where
-      go : (u : Bool) → ltb a b ≡ u → IsWhole (cond u (round f true (b - a) 1) (round f false (a - b) 1)) z
-      go true k = round-exact true (b - a) (sym (second-larger false a b (omega (arith, ltb-true))) ∙ h)
-      go false k = round-exact false (a - b) (sym (first-larger false a b (omega (arith, ltb-false))) ∙ h)
-  sum-exact true false a b h = go (ltb a b) (ltb b a) refl refl
-    where
-      go : (u v : Bool) → ltb a b ≡ u → ltb b a ≡ v → IsWhole (cond u (round f false (b - a) 1) (round f v (a - b) 1)) z
-      go true v k l = round-exact false (b - a) (sym (second-larger true a b (omega (arith, ltb-true))) ∙ h)
-      go false true k l = round-exact true (a - b) (sym (first-larger true a b (omega (arith, ltb-false))) ∙ h)
-      -- equal sizes: the sum is +0
-      go false false k l =
-          let none : a - b ≡ b - a = omega (arith, ltb-false) in
-          round-exact false (a - b) (rw none (sym (second-larger true a b (omega (arith, ltb-false))) ∙ h))
+-- ±a + ±b is a rounded integer, and -0 only where the first of the two is
+record Summed (f : Format) (s t : Bool) (a b : ℕ) : Type 0 where
+  sign : Bool
+  size : ℕ
+  is : sum f s a t b 1 ≡ round f sign size 1
+  signed : withSign sign size ≡ withSign s a +ℤ withSign t b
+  from-minus-zero : MinusZero sign size → MinusZero s a
+
+summed : (f : Format) (s t : Bool) (a b : ℕ) → Summed f s t a b
+unfolding sum
+summed f false false a b = record { sign = false; size = a + b; is = refl; signed = refl; from-minus-zero = λ z. no-minus (z .0) }
+summed f true true a b =
+    record { sign = true; size = a + b; is = refl; signed = negℤ-+ℤ (pos a) (pos b); from-minus-zero = λ z. (refl, omega (arith, z .1)) }
+summed f false true a b = go (ltb a b) refl
+  where
+    go : (u : Bool) → ltb a b ≡ u → Summed f false true a b
+    go true k =
+        record {
+          sign = true;
+          size = b - a;
+          is = rw k;
+          signed = sym (second-larger false a b (omega (arith, ltb-true)));
+          from-minus-zero = λ z. absurd (omega (arith, z .1, ltb-true));
+        }
+    go false k =
+        record {
+          sign = false;
+          size = a - b;
+          is = rw k;
+          signed = sym (first-larger false a b (omega (arith, ltb-false)));
+          from-minus-zero = λ z. no-minus (z .0);
+        }
+summed f true false a b = go (ltb a b) (ltb b a) refl refl
+  where
+    go : (u v : Bool) → ltb a b ≡ u → ltb b a ≡ v → Summed f true false a b
+    go true v k l =
+        record {
+          sign = false;
+          size = b - a;
+          is = rw k;
+          signed = sym (second-larger true a b (omega (arith, ltb-true)));
+          from-minus-zero = λ z. no-minus (z .0);
+        }
+    go false true k l =
+        record {
+          sign = true;
+          size = a - b;
+          is = rw (k, l);
+          signed = sym (first-larger true a b (omega (arith, ltb-false)));
+          from-minus-zero = λ z. absurd (omega (arith, z .1, ltb-true b a l));
+        }
+    -- equal sizes: the sum is +0
+    go false false k l =
+        let none : a - b ≡ b - a = omega (arith, ltb-false) in
+        record {
+          sign = false;
+          size = a - b;
+          is = rw (k, l);
+          signed = rw none (sym (second-larger true a b (omega (arith, ltb-false))));
+          from-minus-zero = λ z. no-minus (z .0);
+        }
+
+-- ---- what is rounded to is exact
+
+value-parts : (x : Float) (s : Bool) (n : ℕ) → HasValue x s n 1 → (a : Parts x (withSign s n)) × (a .sign ≡ s)
+value-parts nan s n h = absurd h
+value-parts (inf t) s n h = absurd h
+value-parts (fin t m e) s n h = (
+  record {
+    sign = t;
+    digits = m;
+    exponent = e;
+    is = refl;
+    size = rw (abs-sign s n) (sym (mul-one (m * up e)) ∙ h .1);
+    signed = rw (h .0, abs-sign s n);
+  },
+  h .0,
+)
+
+round-parts : (f : Format) (s : Bool) (n : ℕ) → n ≤ 2 ^ prec f → (a : Parts (round f s n 1) (withSign s n)) × (a .sign ≡ s)
+round-parts f s n small = value-parts (round f s n 1) s n (Back.round-whole f s n small)
+
+-- a float by its parts is whole
+whole-parts : {x : Float} {z : ℤ} → Parts x z → Whole x z
+whole-parts {x} {z} a =
+    record { value = rw (a .is) (ap (withSign (a .sign)) (a .size) ∙ sign-mul (a .sign) (natAbs z) (down (a .exponent)) ∙ ap (λ (y : ℤ). y *ℤ pos (down (a .exponent))) (a .signed)) }
+
+round-exact : (f : Format) (z : ℤ) → natAbs z ≤ 2 ^ prec f → (s : Bool) (n : ℕ) → withSign s n ≡ z → Whole (round f s n 1) z
+round-exact f z small s n h =
+    let size : n ≡ natAbs z = sym (abs-sign s n) ∙ ap natAbs h in
+    rw (← h) (whole-parts (round-parts f s n (rw size small) .0))
 
 -- ---- zero, integers, sums and differences
 
@@ -183,19 +253,44 @@ whole-neg-zero = whole-neg whole-zero
 
 pub whole-ofInt : (f : Format) (z : ℤ) → natAbs z ≤ 2 ^ prec f → Whole (ofInt f z) z
 unfolding ofInt
-whole-ofInt f (pos n) small = record { value = round-exact f (pos n) small false n refl }
-whole-ofInt f (negsuc n) small = record { value = round-exact f (negsuc n) small true (suc n) refl }
+whole-ofInt f (pos n) small = round-exact f (pos n) small false n refl
+whole-ofInt f (negsuc n) small = round-exact f (negsuc n) small true (suc n) refl
 
 pub whole-add : (f : Format) {x y : Float} {p q : ℤ} → Whole x p → Whole y q → natAbs (p +ℤ q) ≤ 2 ^ prec f → Whole (add f x y) (p +ℤ q)
 whole-add f {x} {y} {p} {q} v w small =
     let a = parts v in
     let b = parts w in
-    let total : withSign (a .sign) (natAbs p) +ℤ withSign (b .sign) (natAbs q) ≡ p +ℤ q = cc in
-    record { value = rw (add-is a b f) (sum-exact f (p +ℤ q) small (a .sign) (b .sign) (natAbs p) (natAbs q) total) }
+    let r = summed f (a .sign) (b .sign) (natAbs p) (natAbs q) in
+    rw (add-is a b f, r .is) (round-exact f (p +ℤ q) small (r .sign) (r .size) (r .signed ∙ ap₂ _+ℤ_ (a .signed) (b .signed)))
 
 pub whole-sub : (f : Format) {x y : Float} {p q : ℤ} → Whole x p → Whole y q → natAbs (p -ℤ q) ≤ 2 ^ prec f → Whole (sub f x y) (p -ℤ q)
 unfolding sub
 whole-sub f v w small = whole-add f v (whole-neg w) small
+
+-- ---- the float of an integer: it is never -0, nor is its sum with a whole float
+
+pub float-of-zero : floatOf (pos 0) ≡ ofBits binary32 0
+unfolding ofInt ofBits
+float-of-zero = refl
+
+ofInt-parts : (f : Format) (p : ℤ) → natAbs p ≤ 2 ^ prec f → (a : Parts (ofInt f p) p) × (MinusZero (a .sign) (natAbs p) → ⊥)
+unfolding ofInt
+ofInt-parts f (pos n) small = let (a, plus) = round-parts f false n small in (a, λ z. no-minus (sym plus ∙ z .0))
+ofInt-parts f (negsuc n) small = (round-parts f true (suc n) small .0, λ z. omega (arith, z .1))
+
+rounded-ofInt : (f : Format) (s : Bool) (n : ℕ) → (MinusZero s n → ⊥) → round f s n 1 ≡ ofInt f (withSign s n)
+unfolding ofInt
+rounded-ofInt f false n other = refl
+rounded-ofInt f true zero other = absurd (other (refl, refl))
+rounded-ofInt f true (suc n) other = refl
+
+pub ofInt-add : (f : Format) (p : ℤ) {q : ℤ} {y : Float} → natAbs p ≤ 2 ^ prec f → Whole y q → add f (ofInt f p) y ≡ ofInt f (p +ℤ q)
+ofInt-add f p {q} {y} small w =
+    let (a, other) = ofInt-parts f p small in
+    let b = parts w in
+    let r = summed f (a .sign) (b .sign) (natAbs p) (natAbs q) in
+    add-is a b f ∙ r .is ∙ rounded-ofInt f (r .sign) (r .size) (λ z. other (r .from-minus-zero z))
+    ∙ ap (ofInt f) (r .signed ∙ ap₂ _+ℤ_ (a .signed) (b .signed))
 
 -- ---- the order
 
