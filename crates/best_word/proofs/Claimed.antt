@@ -112,5 +112,6 @@ best-word-wins code some p good info readings zs exact =
 pub decoded-word-wins :
     (code rate info : ℕ) (readings : List Float) (zs : List ℤ) →
     Exact (codeOf code) (patternOf rate) info readings zs →
-    Claim (codeOf code) (patternOf rate) info zs (word (codeOf code) (patternOf rate) readings info) (score (codeOf code) (patternOf rate) readings info)
+    Claim (codeOf code) (patternOf rate) info zs
+    (word (codeOf code) (patternOf rate) readings info) (score (codeOf code) (patternOf rate) readings info)
 decoded-word-wins code rate = best-word-wins (codeOf code) (code-narrow code .some) (patternOf rate) (rate-pattern rate)

@@ -4,3 +4,4 @@ pub mod WholeRun
 pub mod Score
 pub mod Towards
 pub mod Claimed
+pub mod Contract

@@ -21,7 +21,8 @@ use Rattle.best_path.proofs.Start.{others-marked}
 use Rattle.f32s.specs.Single.{zero32}
 use Rattle.f32s.specs.Whole.{Whole, floatOf}
 use Rattle.f32s.proofs.Ordered.{lt-trans, lt-irrefl}
-use Rattle.f32s.proofs.Wholes.{whole-zero, whole-neg, whole-ofInt, whole-add, whole-sub, whole-lt, float-of-zero, ofInt-add, mark-lt-whole, whole-not-le-mark}
+use Rattle.f32s.proofs.Wholes.{whole-zero, whole-neg, whole-ofInt, whole-add, whole-sub, whole-lt, float-of-zero, ofInt-add}
+use Rattle.f32s.proofs.Wholes.{mark-lt-whole, whole-not-le-mark}
 use Rattle.readings.specs.Places.{valueOf, filled, place0, place1}
 use Rattle.branches.specs.Largest.{mark, largest}
 use Rattle.readings.specs.Sums.{correlation, brings, gain, started}

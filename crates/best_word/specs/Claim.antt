@@ -1,4 +1,5 @@
--- Demand 3: the best word wins, first among equals, and it stays. What is claimed of a decoding; definitions only.
+-- Demand 3: the best word wins, first among equals, and it stays. What is claimed of a word and of a call. Definitions
+-- only.
 use mathlib.Core.Bool.{false, cond}
 use mathlib.Core.List.{List, [], _∷_}
 use mathlib.Core.Logic.{_⊎_}
@@ -12,7 +13,10 @@ use lib.Signed.{ltZ}
 use Rattle.best_path.specs.Path.{passes, Ahead}
 use Rattle.f32s.specs.Whole.{floatOf}
 use Rattle.readings.specs.Decode.{word}
+use Rattle.refusal.specs.Answer.{accepted, refused, wordSaid}
+use Rattle.refusal.specs.declared.Decoded.{Decoded}
 use Rattle.trellis.specs.declared.ConvCode.{ConvCode}
+use Rattle.trellis.specs.Choice.{codeOf, patternOf}
 use Rattle.trellis.specs.Codeword.{stepsOf, zeroTailed, codeword}
 use Rattle.trellis.specs.Keep.{Keep, codedLength}
 use Rattle.best_word.specs.Wholes.{WholeReadings, absSum}
@@ -60,3 +64,14 @@ module _ (code : ConvCode) (p : Keep) (info : ℕ) where
     pub stays :
         (others : List Float) (moved : List ℤ) → Exact code p info others moved → Towards (codeword code p v) zs moved →
         word code p others info ≡ v
+
+-- Of a call on whole readings within the sum, by what it was given, what it returned and what it left in the output:
+pub record ClaimOfCall (code rate info : ℕ) (readings : List Float) (r : Decoded) (out : List ℕ) : Type 0 where
+  -- accepted, the front of the output is a word, and the answer a score, of which the claim holds
+  pub accepts :
+      (zs : List ℤ) → Exact (codeOf code) (patternOf rate) info readings zs → (s : Float) → wordSaid r ≡ accepted s →
+      Claim (codeOf code) (patternOf rate) info zs (take info out) s
+  -- and it is not for a reading that a call is refused
+  pub never-6 :
+      (zs : List ℤ) → Exact (codeOf code) (patternOf rate) info readings zs →
+      (place : ℕ) → wordSaid r ≡ refused 6 place → ⊥

@@ -55,7 +55,7 @@ wholeMets code p zs t = metsAfter wholes code (wholeGain code p zs) (startedWhol
 abbrev pub wholeFroms : ConvCode → Keep → List ℤ → ℕ → List ℕ
 wholeFroms code p zs t = survivors wholes code (wholeGain code p zs) (startedWhole code) t
 
--- An f32 metric is a total: the mark where there is none, and else the f32 of the whole number, of a size up to the bound.
+-- An f32 metric is a total: the mark where there is none, else the f32 of the whole number, of a size up to the bound.
 abbrev pub IsTotal : ℕ → Float → Total → Type 0
 IsTotal bound x none = x ≡ mark
 IsTotal bound x (total z) = (x ≡ floatOf z) × (natAbs z ≤ bound)

@@ -1,6 +1,6 @@
--- Floats that are whole numbers: their sums and differences are exact up to 2 ^ prec (2 ^ 24 for f32), and they compare as integers do. The float of
--- an integer is never -0, nor is its sum with a whole float. At the end, f32::MIN / 2, the mark of what is not reached, lies below every one up to
--- 2 ^ 24. Assumes nothing.
+-- Floats that are whole numbers: their sums and differences are exact up to 2 ^ prec (2 ^ 24 for f32), and they compare as integers do.
+-- The float of an integer is never -0, nor is its sum with a whole float. At the end, f32::MIN / 2, the mark of what is not reached, lies
+-- below every one up to 2 ^ 24. Assumes nothing.
 use mathlib.Core.Bool.{Bool, true, false, not, true≢false}
 use mathlib.Core.Logic.{_≢_}
 use mathlib.Core.Path.{_≡_, refl, sym, ap, ap₂, _∙_}
@@ -17,6 +17,7 @@ use lib.Ieee.Exact.{HasValue}
 use lib.Ieee.Back as Back
 use lib.Ieee.Scale.{round-same}
 use Rattle.f32s.proofs.Ordered.{ltb-scale, below-scale, le-is-not-lt}
+use Rattle.f32s.specs.Single.{finite}
 use Rattle.f32s.specs.Whole.{withSign, IsWhole, Whole, floatOf}
 
 -- ---- the size and the sign of an integer that is ±n / c
@@ -218,7 +219,9 @@ round-parts f s n small = value-parts (round f s n 1) s n (Back.round-whole f s 
 -- a float by its parts is whole
 whole-parts : {x : Float} {z : ℤ} → Parts x z → Whole x z
 whole-parts {x} {z} a =
-    record { value = rw (a .is) (ap (withSign (a .sign)) (a .size) ∙ sign-mul (a .sign) (natAbs z) (down (a .exponent)) ∙ ap (λ (y : ℤ). y *ℤ pos (down (a .exponent))) (a .signed)) }
+    let c = down (a .exponent) in
+    let value = ap (withSign (a .sign)) (a .size) ∙ sign-mul (a .sign) (natAbs z) c ∙ ap (λ (y : ℤ). y *ℤ pos c) (a .signed) in
+    record { value = rw (a .is) value }
 
 round-exact : (f : Format) (z : ℤ) → natAbs z ≤ 2 ^ prec f → (s : Bool) (n : ℕ) → withSign s n ≡ z → Whole (round f s n 1) z
 round-exact f z small s n h =
@@ -314,6 +317,9 @@ whole-lt {x} {y} {p} {q} v w =
 number : {x : Float} {p : ℤ} → Parts x p → isNan x ≡ false
 unfolding isNan
 number a = rw (a .is)
+
+pub whole-finite : {x : Float} {p : ℤ} → Whole x p → finite x ≡ true
+whole-finite {x} w = let a = parts w in rw (a .is)
 
 -- no NaN is whole, so `<=` holds where `>` fails
 pub whole-le : {x y : Float} {p q : ℤ} → Whole x p → Whole y q → le x y ≡ not (ltZ q p)

@@ -1,4 +1,5 @@
--- Floats that are whole numbers: `Whole x z` says that x is finite and that its value is the integer z; `floatOf z` is the f32 of it. Definitions only.
+-- Floats that are whole numbers: `Whole x z` says that x is finite and that its value is the integer z; `floatOf z` is
+-- the f32 of z. Definitions only.
 use mathlib.Core.Bool.{Bool, cond}
 use mathlib.Core.Path.{_≡_}
 use Prim.Native.Nat.{ℕ, _*_}

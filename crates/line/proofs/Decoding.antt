@@ -15,7 +15,7 @@ use lib.Pow.{pow-mono}
 use lib.Seq.{take-at}
 use Rattle.readings.specs.Decode.{word}
 use Rattle.readings.specs.Said.{survivorsOf, decodeSaid}
-use Rattle.readings.proofs.Rows.{length-word}
+use Rattle.readings.proofs.Counts.{length-word}
 use Rattle.readings.proofs.Selected.{code-width}
 use Rattle.f32s.specs.Single.{allOfBytes}
 use Rattle.refusal.specs.Answer.{accepted, refused, refuseWhen, wordSaid}

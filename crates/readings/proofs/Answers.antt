@@ -1,4 +1,4 @@
--- The refusals in their order, and which readings are used. Assumes nothing.
+-- The refusals in their order, which readings are used, and which score an accepted call has. Assumes nothing.
 use mathlib.Core.Bool.{Bool, not}
 use mathlib.Core.List.{List, _++_}
 use mathlib.Core.Path.{_≡_, refl, sym, ap, _∙_}
@@ -11,16 +11,16 @@ use lib.Ieee.{Float}
 use lib.ListN.{length, take, drop}
 use lib.Seq.{take-all, length-take-le}
 use Rattle.encoder.specs.Encode.{lengthOf}
-use Rattle.best_path.proofs.Rows.{length-rows}
 use Rattle.f32s.specs.Single.{finite}
 use Rattle.refusal.specs.Answer.{Said, accepted, refused, refuseWhen}
 use Rattle.refusal.specs.First.{firstBad}
 use Rattle.refusal.specs.Lent.{leaves}
 use Rattle.refusal.specs.Limits.{most}
-use Rattle.refusal.proofs.FirstBad.{some-bad, none-bad}
+use Rattle.refusal.proofs.FirstBad.{some-bad, none-bad, accepted-past-bad}
 use Rattle.refusal.proofs.Over.{accepted-leaves}
+use Rattle.refusal.proofs.Told.{accepted-told, accepted-past}
 use Rattle.trellis.specs.declared.ConvCode.{ConvCode}
-use Rattle.trellis.specs.Choice.{knownRate, codeOf, patternOf}
+use Rattle.trellis.specs.Choice.{knownCode, knownRate, codeOf, patternOf}
 use Rattle.trellis.specs.Codeword.{stepsOf}
 use Rattle.trellis.specs.Keep.{Keep}
 use Rattle.trellis.proofs.Chosen.{rate-pattern}
@@ -28,8 +28,7 @@ use Rattle.trellis.proofs.Kept.{coded-le}
 use Rattle.readings.specs.Decode.{word, score, filledRows}
 use Rattle.readings.specs.Post.{UsedOf}
 use Rattle.readings.specs.Said.{mostReadings, survivorsOf, examined, decodeSaid}
-use Rattle.readings.proofs.Rows.{length-word}
-use Rattle.readings.proofs.Steps.{rows-filled}
+use Rattle.readings.proofs.Counts.{length-word, length-filled}
 use Rattle.readings.proofs.Selected.{code-width}
 
 -- ---- which readings are used
@@ -129,6 +128,18 @@ module _ (code rate info : ℕ) (readings : List Float) (room scratch : ℕ) whe
             pub good-readings : used ≤ bad → said ≡ accepted (score (codeOf code) (patternOf rate) readings info)
             good-readings h = scratch-enough ∙ none-bad finite 6 (take (lengthOf code rate info) readings) _ bad found (omega (arith, counted))
 
+  -- ---- what is accepted
+
+  pub accepted-score : (s : Float) → said ≡ accepted s → s ≡ score (codeOf code) (patternOf rate) readings info
+  unfolding decodeSaid
+  accepted-score s e =
+      let known-code : rate-tested ≡ accepted s = accepted-past (not (knownCode code)) 1 rate-tested s e in
+      let known-rate : count-tested ≡ accepted s = accepted-past (not (knownRate rate)) 2 count-tested s known-code in
+      let few : room-tested ≡ accepted s = accepted-past (ltb most info) 3 room-tested s known-rate in
+      let fits : scratch-tested ≡ accepted s = accepted-past (ltb room info) 4 scratch-tested s few in
+      let rows-fit : readings-tested ≡ accepted s = accepted-past (ltb scratch (survivorsOf code info)) 5 readings-tested s fits in
+      sym (accepted-told _ s (accepted-past-bad finite 6 (take (lengthOf code rate info) readings) _ s rows-fit))
+
 -- ---- what is left
 
 module _ (said : Said Float) (score : Float) (accepts : said ≡ accepted score) (code : ConvCode) (p : Keep) (readings : List Float) (info : ℕ) where
@@ -140,4 +151,4 @@ module _ (said : Said Float) (score : Float) (accepts : said ≡ accepted score)
       new ≡ leaves said (filledRows code p readings (stepsOf code info)) old
   leaves-rows some =
       accepted-leaves said score accepts (filledRows code p readings (stepsOf code info)) (stepsOf code info * 2 ^ code .width)
-      (length-rows (rows-filled code some p readings (2 ^ code .width) refl) (stepsOf code info))
+      (length-filled code some p readings (stepsOf code info))

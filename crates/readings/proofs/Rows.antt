@@ -4,12 +4,11 @@ use mathlib.Core.Path.{_≡_, refl, ap, _∙_}
 use Prim.Native.Nat.{ℕ, _+_, _*_, _^_, _≤_, _<_}
 use native.Mathlib.Omega.{arith}
 use lib.Ieee.{Float}
-use lib.ListN.{length, take}
-use lib.Seq.{length-take-le}
+use lib.ListN.{take}
 use Rattle.best_path.specs.Path.{wholes}
 use Rattle.best_path.specs.Rows.{rowOf, Traceable}
 use Rattle.best_path.specs.Run.{traced}
-use Rattle.best_path.proofs.Rows.{length-traced, left-traceable, left-way-back}
+use Rattle.best_path.proofs.Rows.{left-traceable, left-way-back}
 use Rattle.trellis.specs.declared.ConvCode.{ConvCode}
 use Rattle.trellis.specs.Codeword.{stepsOf}
 use Rattle.trellis.specs.Keep.{Keep}
@@ -18,16 +17,6 @@ use Rattle.trellis.proofs.States.{states-two-halves}
 use Rattle.branches.specs.Largest.{largest}
 use Rattle.readings.specs.Decode.{froms, word, filledRows}
 use Rattle.readings.proofs.Steps.{rows-filled}
-
--- a word has as many bits as it is asked for, from whatever state the way back starts
-length-from :
-    (code : ConvCode) (p : Keep) (readings : List Float) (info s : ℕ) →
-    length (take info (traced largest code (froms code p readings) (stepsOf code info) s)) ≡ info
-length-from code p readings info s = length-take-le info _ (omega (arith, length-traced largest code (froms code p readings) (stepsOf code info) s))
-
-pub length-word : (code : ConvCode) (p : Keep) (readings : List Float) (info : ℕ) → length (word code p readings info) ≡ info
-unfolding word
-length-word code p readings info = length-from code p readings info _
 
 module _
     (code : ConvCode) (half : ℕ) (p : Keep) (readings : List Float) (info : ℕ) (list rest : List ℕ) (shape : Halved code half)

@@ -5,10 +5,10 @@ use mathlib.Core.Path.{_≡_, refl, ap, sym, subst, _∙_}
 use Prim.Native.Nat.{ℕ, zero, suc, _+_, _≤_, _<_}
 use native.Mathlib.Omega.{arith}
 use borrow.Author.Tests.{lt-ltb, le-ltb}
-use lib.Dec.{T}
+use lib.Dec.{T, ltb}
 use lib.Ieee.{Float, nan}
 use lib.ListN.{length, getD, drop, drop-of-length-le}
-use Rattle.refusal.specs.Answer.{Said, refused}
+use Rattle.refusal.specs.Answer.{Said, accepted, refused}
 use Rattle.refusal.specs.First.{firstBad, refuseAtBad}
 
 next-is : (i : ℕ) (xs : List Float) → i < length xs → drop i xs ≡ getD xs i nan ∷ drop (suc i) xs
@@ -57,3 +57,19 @@ module _ (is-good : Float → Bool) where
 
     pub none-bad : length xs ≤ bad → refuseAtBad number is-good xs rest ≡ rest
     none-bad h = rw (← found, le-ltb bad (length xs) h)
+
+  -- where all are good, there is none
+  pub all-good : (xs : List Float) → ((i : ℕ) → i < length xs → is-good (getD xs i nan) ≡ true) → firstBad is-good xs ≡ length xs
+  unfolding firstBad
+  all-good [] each = refl
+  all-good (x ∷ xs) each = rw (each 0 (omega arith)) (ap suc (all-good xs (λ i h. each (suc i) (omega arith))))
+
+  -- what is accepted passed the test
+  pub accepted-past-bad :
+      {A : Type 0} (number : ℕ) (xs : List Float) (rest : Said A) (a : A) → refuseAtBad number is-good xs rest ≡ accepted a →
+      rest ≡ accepted a
+  accepted-past-bad {A} number xs rest a = go (ltb (firstBad is-good xs) (length xs))
+    where
+      go : (b : Bool) → cond b (refused number (firstBad is-good xs)) rest ≡ accepted a → rest ≡ accepted a
+      go true e = cc
+      go false e = e

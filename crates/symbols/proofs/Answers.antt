@@ -7,7 +7,6 @@ use borrow.Author.Tests.{lt-ltb, le-ltb}
 use lib.Ieee.{Float}
 use lib.ListN.{length, take, drop}
 use lib.Seq.{take-all, take-at, length-take-le}
-use Rattle.best_path.proofs.Rows.{length-rows, length-traced}
 use Rattle.f32s.specs.Single.{within}
 use Rattle.refusal.specs.Answer.{Said, accepted, refused}
 use Rattle.refusal.specs.First.{firstBad}
@@ -15,11 +14,10 @@ use Rattle.refusal.specs.Lent.{leaves}
 use Rattle.refusal.proofs.FirstBad.{some-bad, none-bad}
 use Rattle.refusal.proofs.Over.{accepted-leaves}
 use Rattle.trellis.specs.Choice.{k5}
-use Rattle.branches.specs.Smallest.{smallest}
-use Rattle.symbols.specs.Decode.{firstLeast, mets, froms, word, filledRows}
+use Rattle.symbols.specs.Decode.{word, filledRows}
 use Rattle.symbols.specs.Said.{examined, roomFor, symbolsIn, softSaid, hardSaid, phasorsOf}
+use Rattle.symbols.proofs.Counts.{length-word, length-survivors}
 use Rattle.symbols.proofs.Hard.{length-phasors, none-beyond}
-use Rattle.symbols.proofs.Steps.{rows-filled}
 
 -- ---- the refusals
 
@@ -68,15 +66,11 @@ module _ (soft : List Float) (room scratch : ℕ) where
 -- ---- what is left
 
 module _ (said : Said ℕ) (soft : List Float) (count : ℕ) (accepts : said ≡ accepted count) where
-  length-word : length (word k5 soft count) ≡ count
-  unfolding word
-  length-word = length-traced smallest k5 (froms k5 soft) count (firstLeast (mets k5 soft count) 16)
-
   pub leaves-word : (new old : List ℕ) → new ≡ word k5 soft count ++ drop count old → new ≡ leaves said (word k5 soft count) old
-  leaves-word = accepted-leaves said count accepts (word k5 soft count) count length-word
+  leaves-word = accepted-leaves said count accepts (word k5 soft count) count (length-word soft count)
 
   pub leaves-rows : (new old : List ℕ) → new ≡ filledRows k5 soft count ++ drop (count * 16) old → new ≡ leaves said (filledRows k5 soft count) old
-  leaves-rows = accepted-leaves said count accepts (filledRows k5 soft count) (count * 16) (length-rows (rows-filled soft) count)
+  leaves-rows = accepted-leaves said count accepts (filledRows k5 soft count) (count * 16) (length-survivors soft count)
 
 -- ---- hard bits
 

@@ -1,12 +1,13 @@
 -- Prices: a coded pair's cost among the four. Turn: one turn of a step's loop. Steps: symbols one after the other. Least: the first least state.
--- Hard: the phasors of hard bits. Word: the way back. Answers: the refusals in their
--- order. Bounds: what a cost and a metric can come to. Unique: each contract allows one outcome at most.
+-- Hard: the phasors of hard bits. Word: the way back. Counts: an accepted count is how many bits are written. Answers: the refusals in
+-- their order. Bounds: what a cost and a metric can come to. Unique: each contract allows one outcome at most.
 pub mod Prices
 pub mod Turn
 pub mod Steps
 pub mod Least
 pub mod Hard
 pub mod Word
+pub mod Counts
 pub mod Answers
 pub mod Bounds
 pub mod Unique
