@@ -9,7 +9,7 @@ use native.Mathlib.Nat.{mul-le-mul-right, lt-of-le-of-lt}
 use native.Mathlib.Omega.{arith}
 use borrow.Author.Tests.{eqb-true, eqb-false}
 use lib.Dec.{eqb, lit<}
-use lib.Ieee.{Float, binary32, ofBits, lt, le}
+use lib.Ieee.{Float, ofBits, lt, le}
 use lib.ListN.{length, getD, length-replicate}
 use lib.Pow.{pow-pos, suc-ones}
 use Rattle.f32s.specs.Single.{zero32, within}
@@ -20,7 +20,7 @@ use Rattle.symbols.specs.Costs.{started}
 use Rattle.symbols.proofs.Bounds.{MarkOrUpTo, up-to-below, reached-up-to, started-bounded}
 use Rattle.trellis.specs.declared.ConvCode.{ConvCode}
 use Rattle.streaming.specs.Stream.{State, turns, normalised, fresh, fed, metsAfter, stepped}
-use Rattle.streaming.specs.Life.{Symbol, Good, AllGood, after}
+use Rattle.streaming.specs.Life.{Symbol, Good, AllGood, after, metricBound}
 use Rattle.streaming.proofs.Counters.{turn-after}
 use Rattle.streaming.proofs.Lowered.{length-normalised, normalised-up-to}
 use Rattle.streaming.proofs.Plain.{dearest, scale, exact, MarkOrRange, next, length-next}
@@ -143,10 +143,10 @@ module _ (code : ConvCode) (some : 0 < code .width) (small : code .width ≤ 16)
 
     pub metric-bounded :
         (xs : List Symbol) → AllGood xs → (s : ℕ) → s < states → smallest .reached (metricAfter xs s) ≡ true →
-        (le zero32 (metricAfter xs s) ≡ true) × (lt (metricAfter xs s) (ofBits binary32 0x4e80_0000) ≡ true)
+        (le zero32 (metricAfter xs s) ≡ true) × (lt (metricAfter xs s) metricBound ≡ true)
     metric-bounded xs all s h r =
         let u = reached-up-to (metric-mark-or-up-to xs all s h) r in
         let few : highest code (length xs) ≤ 2 ^ 17 - 1 = omega arith in (
           zero-at-most scale u,
-          lt-value u (ofBits binary32 0x4e80_0000) (2 ^ 30) (unfold ofBits in (refl, refl)) (lt-of-le-of-lt (mul-le-mul-right (2 ^ scale) few) (lit< tt)),
+          lt-value u metricBound (2 ^ 30) (unfold ofBits in (refl, refl)) (lt-of-le-of-lt (mul-le-mul-right (2 ^ scale) few) (lit< tt)),
         )

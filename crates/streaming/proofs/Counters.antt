@@ -1,24 +1,21 @@
--- What the counters come to after symbols: how many there were, up to one more than the lag, and modulo 256. A flush is as many symbols (0, 0), and
--- gives a bit for each symbol whose bit was due: as many as there were symbols before, and the lag at most. Assumes nothing.
+-- What the counters come to after symbols: how many there were, up to one more than the lag, and modulo 256. So a bit comes once there were
+-- more than the lag. A flush is as many symbols (0, 0), and gives a bit for each symbol whose bit was due: as many as there were symbols
+-- before, and the lag at most. Assumes nothing.
 use mathlib.Core.Bool.{Bool, true, false, cond}
 use mathlib.Core.List.{List, [], _∷_, _++_}
 use mathlib.Core.Path.{_≡_, refl, sym, ap, _∙_}
 use Prim.Native.Nat.{ℕ, zero, suc, _+_, _-_, _%_, min}
 use native.Mathlib.Nat.{mod-eq-of-lt, zero-min}
 use native.Mathlib.Omega.{arith}
-use borrow.Author.Tests.{ltb-true, ltb-false}
+use borrow.Author.Tests.{ltb-true, ltb-false, lt-ltb, le-ltb}
 use lib.Dec.{ltb}
 use lib.ListN.{length, replicate, length-append, length-replicate}
 use Rattle.f32s.specs.Single.{zero32}
 use Rattle.trellis.specs.declared.ConvCode.{ConvCode}
 use Rattle.streaming.specs.Stream.{State, fresh, fed, given, bitBehind}
 use Rattle.streaming.specs.Flush.{flushed, flushGives}
-use Rattle.streaming.specs.Life.{Symbol, after}
+use Rattle.streaming.specs.Life.{Symbol, nought, after}
 use Rattle.streaming.proofs.Draining.{flushed-next}
-
--- what a flush feeds
-abbrev pub nought : Symbol
-nought = record { re = zero32; im = zero32 }
 
 module _ (code : ConvCode) (lag : ℕ) where
   -- a count within its range is read as it is
@@ -37,6 +34,21 @@ module _ (code : ConvCode) (lag : ℕ) where
   unfolding after fresh fed
   turn-after [] = refl
   turn-after (x ∷ earlier) = turned (after code lag earlier .turn) (length earlier) (turn-after earlier)
+
+  -- the count is above the lag as soon as there were so many symbols
+  past-lag : (n : ℕ) → ltb lag (min n (suc lag)) ≡ ltb lag n
+  past-lag n = go (ltb lag n) refl
+    where
+      go : (b : Bool) → ltb lag n ≡ b → ltb lag (min n (suc lag)) ≡ b
+      go true h = lt-ltb lag (min n (suc lag)) (omega (arith, ltb-true lag n h))
+      go false h = le-ltb lag (min n (suc lag)) (omega (arith, ltb-false lag n h))
+
+  -- of the last symbol: nothing up to the lag, then a bit
+  pub gives-after :
+      (xs : List Symbol) → given code lag (after code lag xs) ≡ cond (ltb lag (length xs)) (bitBehind code lag (after code lag xs) ∷ []) []
+  unfolding given
+  gives-after xs =
+      ap (λ (b : Bool). cond b (bitBehind code lag (after code lag xs) ∷ []) []) (ap (ltb lag) (count-after xs) ∙ past-lag (length xs))
 
   -- ---- a flush
 

@@ -1,8 +1,9 @@
 -- Kept: one entry of the history at a time. Behind: the way back. Normal: normalisation, one metric at a time. Tables: what K5 sends. OneSymbol and
--- Draining: the answers of a symbol and of a flush. InPlace: what the walks of the entries in place share.
+-- Draining: the answers of a symbol and of a flush. Counts: a flush's count is how many bits it writes. InPlace: what the walks of the
+-- entries in place share.
 -- Of states reached from a fresh one: Counters: what the counters come to, and how many bits a flush gives. Way: from a state to any other. Least: the
 -- least metric. Plain: one step without normalisation. Spread: several, and how far apart the metrics lie after them. Lowered: what normalisation
--- leaves. Bounds: what a metric can come to.
+-- leaves. Bounds: what a metric can come to. Lives: all this whatever calls were made.
 -- Unique: each contract allows one outcome at most.
 pub mod Kept
 pub mod Behind
@@ -10,6 +11,7 @@ pub mod Normal
 pub mod Tables
 pub mod OneSymbol
 pub mod Draining
+pub mod Counts
 pub mod InPlace
 pub mod Counters
 pub mod Way
@@ -18,4 +20,5 @@ pub mod Plain
 pub mod Spread
 pub mod Lowered
 pub mod Bounds
+pub mod Lives
 pub mod Unique

@@ -1,16 +1,26 @@
--- States reached from a fresh one by symbols that are all accepted. A flush is as many symbols (0, 0). Over any code and lag. Definitions only.
-use mathlib.Core.Bool.{true}
-use mathlib.Core.List.{List, [], _∷_}
+-- The life of a decoder, from a fresh one on: which calls were made, which symbols were accepted, and the state to which
+-- they lead. A flush is as many symbols (0, 0) as the lag. Over any code and lag. Definitions only.
+use mathlib.Core.Bool.{true, cond}
+use mathlib.Core.List.{List, [], _∷_, _++_}
 use mathlib.Core.Path.{_≡_}
 use Prim.Native.Nat.{ℕ}
-use lib.Ieee.{Float}
-use Rattle.f32s.specs.Single.{within}
+use lib.Dec.{ltb}
+use lib.Ieee.{Float, binary32, ofBits}
+use lib.ListN.{replicate}
+use Rattle.f32s.specs.Single.{zero32, within}
 use Rattle.trellis.specs.declared.ConvCode.{ConvCode}
 use Rattle.streaming.specs.Stream.{State, fresh, fed}
+use Rattle.streaming.specs.Said.{feedLeaves, flushLeaves}
+
+-- ---- accepted symbols
 
 pub record Symbol : Type 0 where
   pub re : Float
   pub im : Float
+
+-- what a flush feeds
+abbrev pub nought : Symbol
+nought = record { re = zero32; im = zero32 }
 
 -- accepted: neither component is NaN or beyond ±1,024
 pub record Good (x : Symbol) : Type 0 where
@@ -26,3 +36,25 @@ unfoldable pub after : ConvCode → ℕ → List Symbol → State
 unfolding fresh fed
 after code lag [] = fresh code lag
 after code lag (x ∷ earlier) = fed code lag (after code lag earlier) (x .re) (x .im)
+
+-- 2^30: every reachable metric stays below it
+abbrev pub metricBound : Float
+metricBound = ofBits binary32 0x4e80_0000
+
+-- ---- calls
+
+-- A life that has led to a state: symbols and flushes in any order, those that are refused too.
+pub data Life (code : ConvCode) (lag : ℕ) : State → Type 0 where
+  begun : Life code lag (fresh code lag)
+  then-fed : (st : State) (re im : Float) → Life code lag st → Life code lag (feedLeaves code lag st re im)
+  then-flushed : (st : State) (room : ℕ) → Life code lag st → Life code lag (flushLeaves code lag st room)
+
+-- the symbols that were accepted in it, last one first, those of flushes among them
+unfoldable pub heardIn : (code : ConvCode) (lag : ℕ) (st : State) → Life code lag st → List Symbol
+heardIn code lag st begun = []
+heardIn code lag st (then-fed before re im life) =
+    cond (within re)
+    (cond (within im) (record { re = re; im = im } ∷ heardIn code lag before life) (heardIn code lag before life))
+    (heardIn code lag before life)
+heardIn code lag st (then-flushed before room life) =
+    cond (ltb room lag) (heardIn code lag before life) (replicate lag nought ++ heardIn code lag before life)
