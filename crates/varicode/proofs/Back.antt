@@ -63,12 +63,12 @@ unfolding streamFrom bitsPut firstAfter
 stream-read k n {text} r = zeros-first k (streamFrom true (written text n)) ∙ text-read r n
 
 -- what is received is what the calls' stream reads as
-relayed-read : (calls : List Call) (r : Relayed calls) → received r ≡ lettersFrom nothingHeard (streamFrom true calls)
-relayed-read calls r = reader-hands-out (r .read) ∙ ap (lettersFrom nothingHeard) (all-handed-out (r .wrote) (r .all))
+relayed-read : {calls : List Call} (r : Relayed calls) → received r ≡ lettersFrom nothingHeard (streamFrom true calls)
+relayed-read r = reader-hands-out (r .read) ∙ ap (lettersFrom nothingHeard) (all-handed-out (r .wrote) (r .all))
 
 -- so that a notice reads back
 pub read-back : ReadsBack
-read-back text k n t r = relayed-read (opening (2 * k) ∷ written text n) r ∙ stream-read k n t
+read-back text k n t r = relayed-read r ∙ stream-read k n t
 
 pub read-back-unopened : ReadsBackUnopened
-read-back-unopened text n t r = relayed-read (written text n) r ∙ text-read t n
+read-back-unopened text n t r = relayed-read r ∙ text-read t n
