@@ -16,7 +16,7 @@ use lib.Pow.{pow-pos}
 use lib.Seq.{take-nil}
 use Rattle.best_path.specs.Run.{traced}
 use Rattle.best_path.specs.Path.{Total, none, total, wholes, added, isReached, larger, startedWhole}
-use Rattle.best_path.proofs.Simulation.{Simulates, mets-agree, survivors-agree, traced-agree}
+use Rattle.best_path.proofs.Simulation.{Simulates, mets-agree, traced-agree}
 use Rattle.best_path.proofs.Start.{others-marked}
 use Rattle.f32s.specs.Single.{zero32}
 use Rattle.f32s.specs.Whole.{Whole, floatOf}
@@ -231,14 +231,6 @@ module _
   unfolding mets
   mets-whole t s within h =
       total-up (sizeRead p zs t) (absSum zs) (abs-take-le zs (codedLength p t)) (metAt t s) (totalAt t s) (mets-agree some simulated t s within h)
-
-  -- the same states are skipped
-  pub reached-whole : (t s : ℕ) → t ≤ steps → s < 2 ^ code .width → largest .reached (metAt t s) ≡ isReached (totalAt t s)
-  reached-whole t s within h = total-reached (absSum zs) small (metAt t s) (totalAt t s) (mets-whole t s within h)
-
-  pub froms-whole : (t : ℕ) → t < steps → froms code p readings t ≡ wholeFroms code p zs t
-  unfolding froms
-  froms-whole = survivors-agree some simulated
 
 -- ---- the answer
 

@@ -2,16 +2,15 @@
 -- The float of an integer is never -0, nor is its sum with a whole float. At the end, f32::MIN / 2, the mark of what is not reached, lies
 -- below every one up to 2 ^ 24. Assumes nothing.
 use mathlib.Core.Bool.{Bool, true, false, not, true≢false}
-use mathlib.Core.Logic.{_≢_}
 use mathlib.Core.Path.{_≡_, refl, sym, ap, ap₂, _∙_}
 use Prim.Native.Nat.{ℕ, zero, suc, _+_, _-_, _*_, _^_, _≤_, _<_}
 use native.Mathlib.Nat.{zero-add, zero-lt-suc, lt-of-le-of-lt, add-mul, zero-mul, mul-one, mul-assoc, mul-comm, mul-sub, mul-pos, eq-of-mul-eq-mul-right}
 use native.Mathlib.Omega.{arith}
 use borrow.Author.Tests.{ltb-true, ltb-false, lt-ltb}
-use lib.Dec.{T, lit<, ltb, leb·suc-zero, leb·suc-suc}
+use lib.Dec.{lit<, ltb, leb·suc-zero, leb·suc-suc}
 use lib.IntN.{ℤ, pos, negsuc, negℤ, natAbs, _+ℤ_, _-ℤ_, _*ℤ_, +ℤ-comm, +ℤ-negℤ-cancel, negℤ-+ℤ, negℤ-negℤ, pos-ne-negsuc}
-use lib.Signed.{ltZ, nonNeg}
-use lib.Ieee.{Float, nan, inf, fin, Format, binary32, prec, up, down, round, sum, neg, add, sub, below, lt, le, isNan, ofInt, fits, ofBits}
+use lib.Signed.{ltZ}
+use lib.Ieee.{Float, nan, inf, fin, Format, binary32, prec, up, down, round, sum, neg, add, sub, below, lt, le, isNan, ofInt, ofBits}
 use lib.Ieee.Fits.{down-pos}
 use lib.Ieee.Exact.{HasValue}
 use lib.Ieee.Back as Back
@@ -251,9 +250,6 @@ whole-neg {x} {p} w = record { value = go x p (w .value) }
     go (inf s) p h = h
     go (fin s m e) p h = sign-not s (m * up e) ∙ ap negℤ h ∙ neg-mul p (down e)
 
-pub whole-neg-zero : Whole (neg (ofBits binary32 0)) (pos 0)
-whole-neg-zero = whole-neg whole-zero
-
 pub whole-ofInt : (f : Format) (z : ℤ) → natAbs z ≤ 2 ^ prec f → Whole (ofInt f z) z
 unfolding ofInt
 whole-ofInt f (pos n) small = round-exact f (pos n) small false n refl
@@ -325,7 +321,7 @@ whole-finite {x} w = let a = parts w in rw (a .is)
 pub whole-le : {x y : Float} {p q : ℤ} → Whole x p → Whole y q → le x y ≡ not (ltZ q p)
 whole-le {x} {y} v w = le-is-not-lt y x (number (parts w)) (number (parts v)) ∙ ap not (whole-lt w v)
 
--- ---- a float is one integer, and an integer other than 0 is one float
+-- ---- a float is one integer
 
 pub whole-unique : {x : Float} {p q : ℤ} → Whole x p → Whole x q → p ≡ q
 whole-unique {x} {p} {q} v w =
@@ -334,19 +330,6 @@ whole-unique {x} {p} {q} v w =
     let sizes : natAbs p * down (a .exponent) ≡ natAbs q * down (a .exponent) = cc in
     let size : natAbs p ≡ natAbs q = eq-of-mul-eq-mul-right (down (a .exponent)) (down-pos (a .exponent)) (natAbs p) (natAbs q) sizes in
     cc
-
-sign-is : (s : Bool) (z : ℤ) → z ≢ pos 0 → withSign s (natAbs z) ≡ z → s ≡ not (nonNeg z)
-sign-is false (pos n) h k = refl
-sign-is true (pos zero) h k = absurd (h refl)
-sign-is true (pos (suc n)) h k = cc
-sign-is false (negsuc n) h k = cc
-sign-is true (negsuc n) h k = refl
-
-pub whole-same : (f : Format) {x y : Float} {p : ℤ} → T (fits f x) → T (fits f y) → Whole x p → Whole y p → p ≢ pos 0 → x ≡ y
-whole-same f {x} {y} {p} h k v w nonzero = Back.whole-unique f x y (not (nonNeg p)) (natAbs p) h k (valued (parts v)) (valued (parts w))
-  where
-    valued : {x : Float} → Parts x p → HasValue x (not (nonNeg p)) (natAbs p) 1
-    valued a = rw (a .is) (sign-is (a .sign) p nonzero (a .signed), mul-one (a .digits * up (a .exponent)) ∙ a .size)
 
 -- ---- the mark f32::MIN / 2
 

@@ -130,9 +130,6 @@ module _ (code : ConvCode) (some : 0 < code .width) (small : code .width ≤ 16)
     abbrev pub metricAfter : List Symbol → ℕ → Float
     metricAfter xs s = getD (after code lag xs .pm) s mark
 
-    pub metric-sized : (xs : List Symbol) → AllGood xs → length (after code lag xs .pm) ≡ states
-    metric-sized xs all = steady xs all .sized
-
     pub metric-mark-or-up-to : (xs : List Symbol) → AllGood xs → (s : ℕ) → s < states → MarkOrUpTo (highest code (length xs)) (metricAfter xs s)
     metric-mark-or-up-to xs all s h = range-up-to (steady xs all .spreads 0 zero-le .all s h)
 

@@ -16,7 +16,6 @@ use Rattle.f32s.specs.Bounded.{Between, UpTo}
 use Rattle.f32s.specs.Single.{zero32, within}
 use Rattle.f32s.proofs.Bounded.{sum-up-to, difference-square-up-to, wider-between, lt-mark}
 use Rattle.f32s.proofs.Ordered.{lt-irrefl}
-use Rattle.refusal.specs.Limits.{most}
 use Rattle.trellis.specs.declared.ConvCode.{ConvCode}
 use Rattle.trellis.specs.State.{window, parityOf}
 use Rattle.symbols.specs.declared.phasors.Phasor.{Phasor}
@@ -80,15 +79,7 @@ pub reached-up-to : {q : ℕ} {m : Float} → MarkOrUpTo q m → smallest .reach
 reached-up-to (inl e) r = absurd (true≢false (sym r ∙ ap (λ (x : Float). lt x mark) e ∙ mark-unreached))
 reached-up-to (inr u) r = u
 
-pub unreached-mark : {q : ℕ} {m : Float} → q ≤ 2 ^ 24 → MarkOrUpTo q m → smallest .reached m ≡ false → m ≡ mark
-unreached-mark few (inl e) r = e
-unreached-mark {q} {m} few (inr u) r = absurd (true≢false (sym (up-to-below few u) ∙ r))
-
 -- ---- the metrics
-
--- the limit of symbols keeps the bound of few digits
-pub limit-few : (n : ℕ) → n ≤ most → 257 * n ≤ 2 ^ 24
-limit-few n h = omega arith
 
 -- the metric of the state s after t symbols
 abbrev pub metricAt : ConvCode → List Float → ℕ → ℕ → Float
@@ -122,7 +113,3 @@ module _ (code : ConvCode) (some : 0 < code .width) (soft : List Float) (n : ℕ
   pub candidate-below-mark : (t s i : ℕ) → t < n → s < 2 ^ code .width → smallest .reached (metricAt code soft t s) ≡ true → lt (smallest .add (metricAt code soft t s) (symbolCosts code soft t s i)) mark ≡ true
   candidate-below-mark t s i l h r =
       up-to-below (omega arith) (candidate-bounded t s i (metricAt code soft t s) l (metrics-bounded t s (omega arith) h) r)
-
-  pub unreached-iff-mark : (t s : ℕ) → t ≤ n → s < 2 ^ code .width → (smallest .reached (metricAt code soft t s) ≡ false → metricAt code soft t s ≡ mark) × (metricAt code soft t s ≡ mark → smallest .reached (metricAt code soft t s) ≡ false)
-  unreached-iff-mark t s l h =
-      (unreached-mark (omega arith) (metrics-bounded t s l h), λ e. ap (λ (m : Float). lt m mark) e ∙ mark-unreached)
