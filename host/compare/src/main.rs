@@ -1,13 +1,15 @@
-//! Runs the proved doors, the program `relay`, and the program `replay` for what has no door, side by side with the
+//! Runs the proved doors, the program `relay`, and the program `answers` for what has no door, side by side with the
 //! oracle, one module for each area. A line for each group says what was compared and how many cases, and `same` or
 //! the first case that differs; the last line counts the groups.
 
+mod answers;
+mod damaged;
 mod decoder;
 mod encoder;
 mod groups;
 mod lent;
+mod no_calls;
 mod program;
-mod replay;
 mod streaming;
 mod symbols;
 mod varicode;
@@ -28,6 +30,8 @@ fn main() -> ExitCode {
     varicode::run(&mut groups, random);
     symbols::run(&mut groups, random);
     streaming::run(&mut groups, random);
+    no_calls::run(&mut groups);
+    damaged::run(&mut groups, random);
     program::run(&mut groups, random);
     groups.finish()
 }

@@ -1,14 +1,14 @@
-//! The streaming decoder, by value through `replay` and in place: which groups are compared.
+//! The streaming decoder, by value through `answers` and in place: which groups are compared.
 
-mod damaged;
 mod forged;
 mod in_place;
 mod refused;
 mod streams;
 
+use crate::answers;
 use crate::groups::Groups;
-use crate::replay;
 use expected::Random;
+use list::line::Line;
 use list::streaming::fresh_line;
 use streams::{COUNTS, EACH, KINDS, Kind, LONG};
 
@@ -43,13 +43,9 @@ pub fn run(groups: &mut Groups, random: &mut Random) {
         "flushes with too little room and just enough",
         &refused::flushes(random),
     );
-    groups.report(
-        "replay, which must find every answer, output and record of a streaming decoder that is made wrong",
-        replay::differ(&damaged::lines(random)),
-    );
 }
 
-fn report(groups: &mut Groups, what: &str, lines: &[String]) {
-    groups.report(&format!("StreamingViterbi by value, {what}"), replay::same(lines));
+fn report(groups: &mut Groups, what: &str, lines: &[Line]) {
+    groups.report(&format!("StreamingViterbi by value, {what}"), answers::same(lines));
     groups.report(&format!("StreamingViterbi in place, {what}"), in_place::same(lines));
 }

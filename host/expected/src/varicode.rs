@@ -1,12 +1,17 @@
 //! Varicode: the words, the writer and the reader. The oracle's queues grow without end; that a call's bits or
-//! character fit in the port's is decided here, by 01's words.
+//! character fit in the port's, and what is left of a record, is decided here, by 01's words.
+
+mod ring;
 
 use oracle::codec::varicode::{VaricodeDecoder, VaricodeEncoder, varicode_decode, varicode_encode};
-use std::collections::VecDeque;
+pub use ring::Ring;
 
 /// How many bits the writer's queue holds, and how many characters the reader's.
 pub const BITS: usize = 256;
 pub const CHARS: usize = 64;
+
+/// The reader's length counts up to this.
+const LONGEST: u8 = 11;
 
 /// What a call that puts something answers where it is accepted; else it answers the refusal's number.
 pub const DONE: u8 = 0;
@@ -23,13 +28,19 @@ pub fn hits(len: u8) -> Vec<(u16, u8)> {
         .collect()
 }
 
-/// A writer with room for [`BITS`].
+/// A writer's record, any of them.
+#[derive(Debug, Clone, PartialEq, Eq)]
+pub struct WriterRecord {
+    pub bits: Ring<BITS>,
+    /// Whether no byte was written since the start or the last opening.
+    pub first: bool,
+}
+
+/// A writer with room for [`BITS`]. One that is reached from a fresh one has the oracle beside it, whose bits must be the
+/// same; a forged one, which the oracle cannot have, goes by 01's rules alone.
 pub struct Writer {
-    oracle: VaricodeEncoder,
-    /// How many bits are not taken out yet.
-    held: usize,
-    /// Whether a byte was written since the start or the last opening.
-    text: bool,
+    record: WriterRecord,
+    oracle: Option<VaricodeEncoder>,
 }
 
 impl Default for Writer {
@@ -41,14 +52,25 @@ impl Default for Writer {
 impl Writer {
     pub fn new() -> Writer {
         Writer {
-            oracle: VaricodeEncoder::new(),
-            held: 0,
-            text: false,
+            record: WriterRecord {
+                bits: Ring::empty(),
+                first: true,
+            },
+            oracle: Some(VaricodeEncoder::new()),
         }
     }
 
+    pub fn forged(record: WriterRecord) -> Writer {
+        Writer { record, oracle: None }
+    }
+
+    pub fn record(&self) -> &WriterRecord {
+        &self.record
+    }
+
+    /// How many bits are not taken out yet.
     pub fn held(&self) -> usize {
-        self.held
+        self.record.bits.held()
     }
 
     /// An opening of `n` zeros.
@@ -56,19 +78,25 @@ impl Writer {
         if !self.fits(0, n) {
             return 9;
         }
-        self.oracle.push_preamble(n as usize);
-        self.text = false;
-        self.holds(n as usize)
+        if let Some(oracle) = &mut self.oracle {
+            oracle.push_preamble(n as usize);
+        }
+        self.record.first = true;
+        self.puts(0, &vec![0; n as usize])
     }
 
     pub fn byte(&mut self, byte: u8) -> u8 {
-        let (gap, len) = (self.gap(), word(byte).1);
+        let (bits, len) = word(byte);
+        let gap = self.gap();
         if !self.fits(gap, u64::from(len)) {
             return 9;
         }
-        self.oracle.push_byte(byte);
-        self.text = true;
-        self.holds(gap + usize::from(len))
+        if let Some(oracle) = &mut self.oracle {
+            oracle.push_byte(byte);
+        }
+        self.record.first = false;
+        let word: Vec<u8> = (0..len).rev().map(|at| (bits >> at & 1) as u8).collect();
+        self.puts(gap, &word)
     }
 
     /// A closing of `n` ones.
@@ -77,38 +105,51 @@ impl Writer {
         if !self.fits(gap, n) {
             return 9;
         }
-        self.oracle.push_postamble(n as usize);
-        self.holds(gap + n as usize)
+        if let Some(oracle) = &mut self.oracle {
+            oracle.push_postamble(n as usize);
+        }
+        self.puts(gap, &vec![1; n as usize])
     }
 
     /// The next bit, taken out.
     pub fn take(&mut self) -> Option<u8> {
-        let bit = self.oracle.next_bit();
-        self.held -= usize::from(bit.is_some());
+        let bit = self.record.bits.take();
+        if let Some(oracle) = &mut self.oracle {
+            assert_eq!(oracle.next_bit(), bit, "the oracle's bit");
+        }
         bit
     }
 
     /// How many zeros come before a word or a closing.
     fn gap(&self) -> usize {
-        if self.text { 2 } else { 0 }
+        if self.record.first { 0 } else { 2 }
     }
 
     fn fits(&self, gap: usize, n: u64) -> bool {
-        (self.held + gap) as u128 + u128::from(n) <= BITS as u128
+        (self.held() + gap) as u128 + u128::from(n) <= BITS as u128
     }
 
-    /// So many bits more are held, and the oracle holds as many.
-    fn holds(&mut self, more: usize) -> u8 {
-        self.held += more;
-        debug_assert_eq!(self.oracle.clone().drain_bits().len(), self.held);
+    fn puts(&mut self, gap: usize, bits: &[u8]) -> u8 {
+        self.record.bits.put(&vec![0; gap]);
+        self.record.bits.put(bits);
         DONE
     }
 }
 
-/// A reader with room for [`CHARS`]. The oracle's own queue is emptied at each bit.
+/// A reader's record, any of them.
+#[derive(Debug, Clone, PartialEq, Eq)]
+pub struct ReaderRecord {
+    /// The bits of the word that it is in, how many up to [`LONGEST`], and whether the last was a zero.
+    pub shift: u16,
+    pub len: u8,
+    pub zero: bool,
+    pub chars: Ring<CHARS>,
+}
+
+/// A reader with room for [`CHARS`]. The oracle is beside it as beside a writer; its own queue is emptied at each bit.
 pub struct Reader {
-    oracle: VaricodeDecoder,
-    chars: VecDeque<u8>,
+    record: ReaderRecord,
+    oracle: Option<VaricodeDecoder>,
 }
 
 impl Default for Reader {
@@ -120,13 +161,27 @@ impl Default for Reader {
 impl Reader {
     pub fn new() -> Reader {
         Reader {
-            oracle: VaricodeDecoder::new(),
-            chars: VecDeque::new(),
+            record: ReaderRecord {
+                shift: 0,
+                len: 0,
+                zero: false,
+                chars: Ring::empty(),
+            },
+            oracle: Some(VaricodeDecoder::new()),
         }
     }
 
+    pub fn forged(record: ReaderRecord) -> Reader {
+        Reader { record, oracle: None }
+    }
+
+    pub fn record(&self) -> &ReaderRecord {
+        &self.record
+    }
+
+    /// How many characters are not taken out yet.
     pub fn held(&self) -> usize {
-        self.chars.len()
+        self.record.chars.held()
     }
 
     /// A received bit.
@@ -134,21 +189,50 @@ impl Reader {
         if bit > 1 {
             return 8;
         }
-        let mut after = self.oracle.clone();
-        after.push_bit(bit);
-        if let Some(char) = after.pop_char() {
-            if self.chars.len() == CHARS {
-                return 9;
-            }
-            self.chars.push_back(char);
+        let brought = self.brought(bit);
+        if brought.is_some() && self.held() == CHARS {
+            return 9;
         }
-        self.oracle = after;
+        if let Some(oracle) = &mut self.oracle {
+            oracle.push_bit(bit);
+            assert_eq!(oracle.pop_char(), brought, "the oracle's character");
+        }
+        self.hear(bit);
+        if let Some(char) = brought {
+            self.record.chars.put(&[char]);
+        }
         DONE
     }
 
     /// The next character, taken out.
     pub fn take(&mut self) -> Option<u8> {
-        self.chars.pop_front()
+        self.record.chars.take()
+    }
+
+    /// A zero after a remembered zero ends the word.
+    fn ends(&self, bit: u8) -> bool {
+        bit == 0 && self.record.zero
+    }
+
+    /// A length out of range is read modulo one more than its largest value.
+    fn len(&self) -> u8 {
+        self.record.len % (LONGEST + 1)
+    }
+
+    /// The character of the word that a bit ends, without the word's trailing zero.
+    fn brought(&self, bit: u8) -> Option<u8> {
+        let looked_up = || varicode_decode(self.record.shift >> 1, self.len().saturating_sub(1));
+        self.ends(bit).then(looked_up).flatten()
+    }
+
+    fn hear(&mut self, bit: u8) {
+        if self.ends(bit) {
+            (self.record.shift, self.record.len, self.record.zero) = (0, 0, false);
+        } else {
+            self.record.shift = self.record.shift << 1 | u16::from(bit);
+            self.record.len = (self.len() + 1).min(LONGEST);
+            self.record.zero = bit == 0;
+        }
     }
 }
 
@@ -203,5 +287,52 @@ mod tests {
         }
         assert_eq!([1, 0, 0, 0, 2].map(|bit| reader.put(bit)), [DONE, DONE, 9, 9, 8]);
         assert_eq!((reader.take(), reader.put(0), reader.held()), (Some(b' '), DONE, 64));
+    }
+
+    #[test]
+    fn forged_heads_and_counts_are_read_modulo() {
+        let bits = Ring {
+            slots: std::array::from_fn(|at| at as u8),
+            head: 256 + 254,
+            count: 257 + 3,
+        };
+        let mut writer = Writer::forged(WriterRecord { bits, first: false });
+        assert_eq!([(); 4].map(|()| writer.take()), [Some(254), Some(255), Some(0), None]);
+        assert_eq!((writer.record().bits.head, writer.record().bits.count), (1, 0));
+    }
+
+    #[test]
+    fn what_is_refused_and_an_empty_queue_leave_a_forged_record_as_it_came() {
+        let (head, count) = (u64::MAX, 257 * 5);
+        let bits = Ring {
+            slots: [7; BITS],
+            head,
+            count,
+        };
+        let mut writer = Writer::forged(WriterRecord { bits, first: true });
+        let before = writer.record().clone();
+        assert_eq!((writer.take(), writer.open(257), writer.close(u64::MAX)), (None, 9, 9));
+        assert_eq!(*writer.record(), before);
+        assert_eq!((writer.close(0), writer.record().bits.head), (DONE, 255));
+    }
+
+    #[test]
+    fn a_forged_readers_length_is_read_modulo() {
+        let chars = Ring {
+            slots: [9; CHARS],
+            head: 64,
+            count: 65 + 64,
+        };
+        let record = ReaderRecord {
+            shift: 0b110,
+            len: 12 + 3,
+            zero: true,
+            chars,
+        };
+        let mut reader = Reader::forged(record.clone());
+        assert_eq!((reader.put(2), reader.put(0)), (8, 9));
+        assert_eq!(*reader.record(), record);
+        assert_eq!((reader.take(), reader.record().len, reader.put(0)), (Some(9), 15, DONE));
+        assert_eq!((reader.record().chars.slots[0], reader.record().len), (b'e', 0));
     }
 }

@@ -1,5 +1,4 @@
-//! How the lines of a list are written: its fields, and the cases of the decoders and of Varicode with what is expected
-//! of them.
+//! How the lines of the lists are written: calls of the proved program `answers`, and what is expected of each.
 
 pub mod decoder;
 pub mod line;

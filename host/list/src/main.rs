@@ -1,21 +1,47 @@
-//! Prints the stored list of expected answers to standard output: one case a line, fields separated by one space.
-//! Accepted answers are the oracle's, refusals are by 01's table.
+//! Writes the stored lists into a folder: the calls to its file `stdin`, and to `stdout` what is expected of each, line by
+//! line. Accepted answers are the oracle's; refusals, and what comes of forged records, are by document 01.
 
 mod stored;
 
 use expected::Random;
 use list::line::BEFORE;
+use std::path::PathBuf;
+use std::process::ExitCode;
+use stored::Stored;
 
 const SEED: u64 = 0x7265_706C_6179;
 
-fn main() {
-    println!("# What the Rust of orion-sdr at commit a2a34555c3 answers, and where document 01 refuses.");
-    println!("# Made by the program host/list, with seed {SEED:#x} for the random inputs.");
-    println!("# Numbers and bytes in hex, - for no bytes; every lent byte is {BEFORE:02x} before a call.");
+fn main() -> ExitCode {
+    let Some(folder) = std::env::args_os().nth(1).map(PathBuf::from) else {
+        eprintln!("usage: list FOLDER");
+        return ExitCode::from(2);
+    };
+    match stored().write(&folder) {
+        Ok(()) => ExitCode::SUCCESS,
+        Err(why) => {
+            eprintln!("list: {}: {why}", folder.display());
+            ExitCode::FAILURE
+        }
+    }
+}
+
+fn stored() -> Stored {
+    let mut list = Stored::default();
+    list.comment("Calls, whose answers the Rust of orion-sdr at commit a2a34555c3 gives; document 01 says where they are refused.");
+    list.comment(&format!(
+        "Made by the program host/list, with seed {SEED:#x} for the random inputs."
+    ));
+    list.comment(
+        "Numbers and bytes in hex, - for no bytes, (PIECE*COUNT) for a piece again and again, to COUNT bytes.",
+    );
+    list.comment(&format!(
+        "Of a lent buffer there is the length; every byte of it is {BEFORE:02x} before the call."
+    ));
     let random = &mut Random::new(SEED);
-    stored::encoder::print(random);
-    stored::varicode::print(random);
-    stored::decoder::print(random);
-    stored::symbols::print(random);
-    stored::streaming::print(random);
+    stored::encoder::add(&mut list, random);
+    stored::varicode::add(&mut list, random);
+    stored::decoder::add(&mut list, random);
+    stored::symbols::add(&mut list, random);
+    stored::streaming::add(&mut list, random);
+    list
 }

@@ -1,7 +1,35 @@
-//! What is on the stored list, one module for each area.
+//! What is on the stored lists, one module for each area.
 
 pub mod decoder;
 pub mod encoder;
 pub mod streaming;
 pub mod symbols;
 pub mod varicode;
+
+use list::line::Line;
+use std::{fs, io, path::Path};
+
+/// The calls and the answers, as many lines of each.
+#[derive(Default)]
+pub struct Stored {
+    calls: String,
+    answers: String,
+}
+
+impl Stored {
+    /// A comment among the calls, whose answer is an empty line.
+    pub fn comment(&mut self, text: &str) {
+        self.calls += &format!("# {text}\n");
+        self.answers += "\n";
+    }
+
+    pub fn add(&mut self, line: Line) {
+        self.calls += &(line.call + "\n");
+        self.answers += &(line.answer + "\n");
+    }
+
+    pub fn write(&self, folder: &Path) -> io::Result<()> {
+        fs::write(folder.join("stdin"), &self.calls)?;
+        fs::write(folder.join("stdout"), &self.answers)
+    }
+}

@@ -1,33 +1,136 @@
-//! The lines of Varicode. A writer's or a reader's line grows step by step: each step is run on what is expected,
-//! and written with its answer.
+//! The lines of Varicode. A writer's or a reader's line grows step by step: each step is run on what is expected, and its
+//! answers are written.
 
-use expected::varicode::{Reader, Writer, hits, word};
+use crate::line::{Line, bytes};
+use expected::varicode::{Reader, ReaderRecord, Ring, Writer, WriterRecord, hits, word};
 
-/// `v`: a byte, its word, its word's length.
-pub fn word_line(byte: u8) -> String {
+/// What a queue that is empty answers: no byte.
+const NOTHING: u64 = 0x100;
+
+/// `v`: a byte; its word and its word's length.
+pub fn word_line(byte: u8) -> Line {
     let (bits, len) = word(byte);
-    format!("v {byte:02x} {bits:04x} {len:02x}")
+    Line {
+        call: format!("v {byte:02x}"),
+        answer: format!("v {bits:04x} {len:02x}"),
+    }
 }
 
-/// `d`: a length, and every value that is a word of it, with its byte.
-pub fn lookup_line(len: u8) -> String {
-    let hits: String = hits(len)
-        .into_iter()
-        .map(|(bits, byte)| format!("{bits:04x}{byte:02x}"))
-        .collect();
-    format!("d {len:02x} {}", if hits.is_empty() { "-" } else { &hits })
+/// `d`: a length; every value that is a word of it, with its byte.
+pub fn lookup_line(len: u8) -> Line {
+    let hits = hits(len).into_iter();
+    let said: String = hits.map(|(bits, byte)| format!(" {bits:04x} {byte:02x}")).collect();
+    Line {
+        call: format!("d {len:02x}"),
+        answer: format!("d{said}"),
+    }
 }
 
-/// `w`: a fresh writer and what is done with it.
-#[derive(Default)]
+/// `m`: a fresh writer's record, and a fresh reader's.
+pub fn fresh_line() -> Line {
+    let (writer, reader) = (written(Writer::new().record()), read(Reader::new().record()));
+    Line {
+        call: "m".to_string(),
+        answer: format!("m {writer} {reader}"),
+    }
+}
+
+/// A writer's record: the slots, the head, the count, whether no byte was written.
+fn written(record: &WriterRecord) -> String {
+    format!("{} {}", ring(&record.bits), u8::from(record.first))
+}
+
+/// A reader's record: the word's bits, its length, whether the last was a zero, the slots, the head, the count.
+fn read(record: &ReaderRecord) -> String {
+    let (shift, len, zero) = (record.shift, record.len, u8::from(record.zero));
+    format!("{shift:04x} {len:02x} {zero} {}", ring(&record.chars))
+}
+
+fn ring<const N: usize>(ring: &Ring<N>) -> String {
+    format!("{} {:x} {:x}", bytes(&ring.slots), ring.head, ring.count)
+}
+
+/// A call that puts something: 0, or its refusal's number and place 0 as a door says them.
+fn put(answer: u8) -> u64 {
+    expected::refused(u64::from(answer))
+}
+
+fn taken(answer: Option<u8>) -> u64 {
+    answer.map_or(NOTHING, u64::from)
+}
+
+/// The steps of a line and their answers. Bytes that follow each other are one step.
+#[derive(Clone, Default)]
+struct Steps {
+    calls: String,
+    answers: String,
+    /// The letter of the last step, where that goes on with more bytes.
+    on: Option<char>,
+}
+
+impl Steps {
+    fn number(&mut self, letter: char, n: u64) {
+        self.calls += &format!(" {letter}{n:x}");
+        self.on = None;
+    }
+
+    /// Takes out so many times; none is no step.
+    fn take(&mut self, letter: char, count: usize, mut next: impl FnMut() -> Option<u8>) {
+        if count > 0 {
+            self.number(letter, count as u64);
+            (0..count).for_each(|_| self.answer(taken(next())));
+        }
+    }
+
+    fn byte(&mut self, letter: char, byte: u8) {
+        if self.on != Some(letter) {
+            self.calls += &format!(" {letter}");
+            self.on = Some(letter);
+        }
+        self.calls += &format!("{byte:02x}");
+    }
+
+    fn answer(&mut self, answer: u64) {
+        self.answers += &format!(" {answer:x}");
+    }
+
+    /// The record before, the steps; the answers, the record after.
+    fn line(&self, letter: char, before: &str, after: &str) -> Line {
+        Line {
+            call: format!("{letter} {before}{}", self.calls),
+            answer: format!("{letter}{} {after}", self.answers),
+        }
+    }
+}
+
+/// `w`: a writer's record and what is done with it; the answers, and the record.
 pub struct WriterLine {
+    before: String,
     writer: Writer,
-    steps: String,
+    steps: Steps,
+}
+
+impl Default for WriterLine {
+    fn default() -> WriterLine {
+        WriterLine::new()
+    }
 }
 
 impl WriterLine {
     pub fn new() -> WriterLine {
-        WriterLine::default()
+        WriterLine::of(Writer::new())
+    }
+
+    pub fn forged(record: WriterRecord) -> WriterLine {
+        WriterLine::of(Writer::forged(record))
+    }
+
+    fn of(writer: Writer) -> WriterLine {
+        WriterLine {
+            before: written(writer.record()),
+            writer,
+            steps: Steps::default(),
+        }
     }
 
     /// How many bits are not taken out yet.
@@ -36,14 +139,14 @@ impl WriterLine {
     }
 
     pub fn open(mut self, n: u64) -> WriterLine {
-        let answer = self.writer.open(n);
-        self.steps += &format!(" o{n:016x}={answer:02x}");
+        self.steps.number('o', n);
+        self.steps.answer(put(self.writer.open(n)));
         self
     }
 
     pub fn byte(mut self, byte: u8) -> WriterLine {
-        let answer = self.writer.byte(byte);
-        self.steps += &format!(" b{byte:02x}={answer:02x}");
+        self.steps.byte('b', byte);
+        self.steps.answer(put(self.writer.byte(byte)));
         self
     }
 
@@ -52,17 +155,14 @@ impl WriterLine {
     }
 
     pub fn close(mut self, n: u64) -> WriterLine {
-        let answer = self.writer.close(n);
-        self.steps += &format!(" c{n:016x}={answer:02x}");
+        self.steps.number('c', n);
+        self.steps.answer(put(self.writer.close(n)));
         self
     }
 
     /// Takes so many bits out; where there are fewer, nothing comes.
     pub fn take(mut self, count: usize) -> WriterLine {
-        for _ in 0..count {
-            let bit = self.writer.take();
-            self.steps += &bit.map_or(" t-".to_string(), |bit| format!(" t{bit}"));
-        }
+        self.steps.take('t', count, || self.writer.take());
         self
     }
 
@@ -72,21 +172,39 @@ impl WriterLine {
         self.take(count)
     }
 
-    pub fn line(self) -> String {
-        format!("w{}", self.steps)
+    pub fn line(self) -> Line {
+        self.steps.line('w', &self.before, &written(self.writer.record()))
     }
 }
 
-/// `r`: a fresh reader and what is done with it.
-#[derive(Default)]
+/// `r`: a reader's record and what is done with it; the answers, and the record.
 pub struct ReaderLine {
+    before: String,
     reader: Reader,
-    steps: String,
+    steps: Steps,
+}
+
+impl Default for ReaderLine {
+    fn default() -> ReaderLine {
+        ReaderLine::new()
+    }
 }
 
 impl ReaderLine {
     pub fn new() -> ReaderLine {
-        ReaderLine::default()
+        ReaderLine::of(Reader::new())
+    }
+
+    pub fn forged(record: ReaderRecord) -> ReaderLine {
+        ReaderLine::of(Reader::forged(record))
+    }
+
+    fn of(reader: Reader) -> ReaderLine {
+        ReaderLine {
+            before: read(reader.record()),
+            reader,
+            steps: Steps::default(),
+        }
     }
 
     /// How many characters are not taken out yet.
@@ -95,8 +213,8 @@ impl ReaderLine {
     }
 
     pub fn put(mut self, bit: u8) -> ReaderLine {
-        let answer = self.reader.put(bit);
-        self.steps += &format!(" i{bit:02x}={answer:02x}");
+        self.steps.byte('i', bit);
+        self.steps.answer(put(self.reader.put(bit)));
         self
     }
 
@@ -110,10 +228,7 @@ impl ReaderLine {
 
     /// Takes so many characters out; where there are fewer, nothing comes.
     pub fn take(mut self, count: usize) -> ReaderLine {
-        for _ in 0..count {
-            let char = self.reader.take();
-            self.steps += &char.map_or(" p-".to_string(), |char| format!(" p{char:02x}"));
-        }
+        self.steps.take('p', count, || self.reader.take());
         self
     }
 
@@ -123,32 +238,48 @@ impl ReaderLine {
         self.take(count)
     }
 
-    pub fn line(self) -> String {
-        format!("r{}", self.steps)
+    pub fn line(self) -> Line {
+        self.steps.line('r', &self.before, &read(self.reader.record()))
     }
 }
+
+pub mod inputs;
 
 #[cfg(test)]
 mod tests {
     use super::*;
 
+    fn pair(line: Line) -> (String, String) {
+        (line.call, line.answer)
+    }
+
+    fn strings(call: &str, answer: &str) -> (String, String) {
+        (call.to_string(), answer.to_string())
+    }
+
     #[test]
     fn words_and_lookups() {
-        assert_eq!(word_line(b'e'), "v 65 0003 02");
-        assert_eq!(word_line(200), "v c8 02ab 0a");
-        assert_eq!(lookup_line(0), "d 00 -");
-        assert_eq!(lookup_line(3), "d 03 00057400076f");
+        assert_eq!(pair(word_line(b'e')), strings("v 65", "v 0003 02"));
+        assert_eq!(pair(word_line(200)), strings("v c8", "v 02ab 0a"));
+        assert_eq!(pair(lookup_line(0)), strings("d 00", "d"));
+        assert_eq!(pair(lookup_line(3)), strings("d 03", "d 0005 74 0007 6f"));
     }
 
     #[test]
     fn a_writer_and_a_reader() {
         assert_eq!(
-            WriterLine::new().byte(b'e').open(257).take_all().line(),
-            "w b65=00 o0000000000000101=09 t1 t1 t-"
+            pair(WriterLine::new().text(*b"e ").open(257).take_all().line()),
+            strings(
+                "w (00*100) 0 0 1 b6520 o101 t6",
+                "w 0 0 900000000 1 1 0 0 1 100 0101000001(00*fb) 5 0 0"
+            )
         );
         assert_eq!(
-            ReaderLine::new().bits("11 00").put(2).take_all().line(),
-            "r i01=00 i01=00 i00=00 i00=00 i02=08 p65 p-"
+            pair(ReaderLine::new().bits("11 00").put(2).take_all().line()),
+            strings(
+                "r 0000 00 0 (00*40) 0 0 i0101000002 p2",
+                "r 0 0 0 0 800000000 65 100 0000 00 0 65(00*3f) 1 0"
+            )
         );
     }
 }

@@ -1,7 +1,8 @@
 //! The block decoder's part of the list.
 
+use super::Stored;
 use expected::{CODES, INFO_LIMIT, RATES, Random, encoder};
-use list::decoder::block_line;
+use list::decoder::{block_line, repeated_line};
 
 /// Readings of each kind: whole, fractional, such as overflow or nearly vanish, and one that is refused.
 const WHOLE: [f32; 6] = [-2.0, -1.0, -0.0, 0.0, 1.0, 2.0];
@@ -9,16 +10,20 @@ const FRACTIONAL: [f32; 6] = [-1.25, -0.7, -0.1, 0.3, 0.45, 1.1];
 const EXTREME: [f32; 6] = [3e38, -3e38, f32::MAX, f32::MIN, 1e-45, -1e-38];
 const BAD: [f32; 3] = [f32::NAN, f32::INFINITY, f32::NEG_INFINITY];
 
-pub fn print(random: &mut Random) {
-    println!("# b: block decode. Code, rate, answer, info count, the readings' bytes, out and scratch after the call.");
-    bench_sheet();
+pub fn add(list: &mut Stored, random: &mut Random) {
+    list.comment(
+        "b: block decode. Code, rate, info count, the readings' bytes, lengths of out and scratch; the answer, both",
+    );
+    list.comment("after the call.");
+    bench_sheet(list);
     for (code, _) in CODES {
         for (rate, _) in RATES {
-            kinds(code, rate, random);
-            bad_readings(code, rate);
+            kinds(list, code, rate, random);
+            bad_readings(list, code, rate);
         }
     }
-    refusals();
+    refusals(list);
+    limits(list);
 }
 
 fn bytes_of(readings: &[f32]) -> Vec<u8> {
@@ -31,47 +36,47 @@ fn survivors(code: u8, info: usize) -> usize {
     (info + tail) << tail
 }
 
-fn block(code: u8, rate: u8, info: usize, readings: &[f32], more: usize) {
+fn block(list: &mut Stored, code: u8, rate: u8, info: usize, readings: &[f32], more: usize) {
     let (room, scratch) = (info + more, survivors(code, info) + more);
-    println!("{}", block_line(code, rate, info, &bytes_of(readings), room, scratch));
+    list.add(block_line(code, rate, info, &bytes_of(readings), room, scratch));
 }
 
-fn bench_sheet() {
-    block(0, 0, 1, &[-1.0], 0);
-    block(0, 0, 1, &[-1.0, 1.0], 0);
-    block(0, 0, 3, &[], 0);
+fn bench_sheet(list: &mut Stored) {
+    block(list, 0, 0, 1, &[-1.0], 0);
+    block(list, 0, 0, 1, &[-1.0, 1.0], 0);
+    block(list, 0, 0, 3, &[], 0);
     let mut eleven = [1.0; 11];
     eleven[10] = f32::NAN;
-    block(0, 0, 1, &eleven, 0);
+    block(list, 0, 0, 1, &eleven, 0);
     eleven[9] = f32::NAN;
-    block(0, 0, 1, &eleven, 0);
+    block(list, 0, 0, 1, &eleven, 0);
 }
 
 /// Lists of none, one, one short, exact and long, for info counts about each period.
-fn kinds(code: u8, rate: u8, random: &mut Random) {
+fn kinds(list: &mut Stored, code: u8, rate: u8, random: &mut Random) {
     for (at, info) in [0, 1, 2, 3, 7, 8].into_iter().enumerate() {
         let coded = encoder::coded_len(code, rate, info) as usize;
         for (kind, values) in [WHOLE, FRACTIONAL, EXTREME].into_iter().enumerate() {
             let lens = [coded, coded - 1, coded + 3, 0, 1];
             let len = lens[(at + kind) % lens.len()];
-            let list: Vec<f32> = (0..len).map(|_| values[random.below(values.len())]).collect();
-            block(code, rate, info, &list, at % 3);
+            let readings: Vec<f32> = (0..len).map(|_| values[random.below(values.len())]).collect();
+            block(list, code, rate, info, &readings, at % 3);
         }
     }
 }
 
 /// The first place, the last that is used, and the first that is not.
-fn bad_readings(code: u8, rate: u8) {
+fn bad_readings(list: &mut Stored, code: u8, rate: u8) {
     let coded = encoder::coded_len(code, rate, 2) as usize;
     for (place, bad) in [0, coded - 1, coded].into_iter().zip(BAD) {
-        let mut list = vec![0.5; coded + 1];
-        list[place] = bad;
-        block(code, rate, 2, &list, 1);
+        let mut readings = vec![0.5; coded + 1];
+        readings[place] = bad;
+        block(list, code, rate, 2, &readings, 1);
     }
 }
 
 /// Each refusal alone, and each with those above it; a last piece under four bytes.
-fn refusals() {
+fn refusals(list: &mut Stored) {
     let nan = bytes_of(&[f32::NAN]);
     for (code, rate, info, room, scratch) in [
         (2, 5, INFO_LIMIT + 1, 0, 0),
@@ -84,10 +89,23 @@ fn refusals() {
         (0, 255, 3, 3, survivors(0, 3)),
         (0, 0, usize::MAX, 3, survivors(0, 3)),
     ] {
-        println!("{}", block_line(code, rate, info, &nan, room, scratch));
+        list.add(block_line(code, rate, info, &nan, room, scratch));
     }
     let cut = bytes_of(&[-1.0, 1.0]);
     for len in 4..8 {
-        println!("{}", block_line(0, 0, 1, &cut[..len], 1, survivors(0, 1)));
+        list.add(block_line(0, 0, 1, &cut[..len], 1, survivors(0, 1)));
+    }
+}
+
+/// A block at the limit of K7, whose scratch lacks a byte, one beyond it, and one four times as long.
+fn limits(list: &mut Stored) {
+    let piece = bytes_of(&[1.0, -1.0, 0.5]);
+    for (info, scratch) in [
+        (INFO_LIMIT, survivors(1, INFO_LIMIT) - 1),
+        (INFO_LIMIT + 1, survivors(1, INFO_LIMIT)),
+        (4 * INFO_LIMIT, 0),
+    ] {
+        let readings = 4 * encoder::coded_len(1, 0, INFO_LIMIT) as usize * info.div_ceil(INFO_LIMIT + 1);
+        list.add(repeated_line(1, 0, info, &piece, readings, info, scratch));
     }
 }

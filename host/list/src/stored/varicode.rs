@@ -1,8 +1,9 @@
 //! Varicode's part of the list.
 
+use super::Stored;
 use expected::Random;
 use expected::varicode::{BITS, CHARS};
-use list::varicode::{ReaderLine, WriterLine, lookup_line, word_line};
+use list::varicode::{ReaderLine, WriterLine, fresh_line, inputs, lookup_line, word_line};
 
 /// The lengths at which every value is looked up: those that words have and their neighbours, that of the shift, and
 /// two far ones. The comparison has them all, which takes minutes where the program runs under an emulator.
@@ -11,66 +12,81 @@ const LENGTHS: [u8; 15] = [0, 1, 2, 3, 4, 5, 6, 7, 8, 9, 10, 11, 16, 128 + 10, 2
 /// Every string of bits up to this many is listed.
 const ALL_BITS: usize = 6;
 
-pub fn print(random: &mut Random) {
-    println!("# v: a byte's word. Byte, word, length.");
-    (0..=u8::MAX).for_each(|byte| println!("{}", word_line(byte)));
-    println!("# d: the bytes of all 65536 values at a length. Length, the values that are words, each with its byte.");
-    LENGTHS.into_iter().for_each(|len| println!("{}", lookup_line(len)));
-    println!("# w: a fresh writer. o: opening, b: byte, c: closing, each with its answer, 00 or a refusal's number;");
-    println!("# t: a bit taken out, or - for nothing.");
-    gaps();
-    full_of_bits();
-    round_the_bits(random);
-    println!("# r: a fresh reader. i: a bit put in, with its answer; p: a character taken out, or - for nothing.");
-    short_strings();
-    words_read();
-    full_of_characters();
-    round_the_characters(random);
+/// So many forged records of each.
+const FORGED: usize = 12;
+
+pub fn add(list: &mut Stored, random: &mut Random) {
+    list.comment("v: a byte's word. Byte; word, length.");
+    (0..=u8::MAX).for_each(|byte| list.add(word_line(byte)));
+    list.comment(
+        "d: the bytes of all 65536 values at a length. Length; the values that are words, each with its byte.",
+    );
+    LENGTHS.into_iter().for_each(|len| list.add(lookup_line(len)));
+    list.comment("m: a fresh writer and a fresh reader. Their records, as the lines w and r have them.");
+    list.add(fresh_line());
+    list.comment(
+        "w: a writer. Slots, head, count, whether no byte was written; o: opening, b: bytes, c: closing, t: so many",
+    );
+    list.comment("bits taken out. An answer for each call (0, a refusal, a bit, 100 for nothing), the record after.");
+    gaps(list);
+    full_of_bits(list);
+    round_the_bits(list, random);
+    list.comment(
+        "r: a reader. Bits, length, whether the last was a zero, slots, head, count; i: bits put in, p: so many",
+    );
+    list.comment("characters taken out. An answer for each call, the record after.");
+    short_strings(list);
+    words_read(list);
+    full_of_characters(list);
+    round_the_characters(list, random);
+    list.comment("w and r: forged records, which the Rust cannot have: by document 01 alone.");
+    forged(list, random);
 }
 
-fn writer(line: WriterLine) {
-    println!("{}", line.take_all().line());
+fn writer(list: &mut Stored, line: WriterLine) {
+    list.add(line.take_all().line());
 }
 
-fn reader(line: ReaderLine) {
-    println!("{}", line.take_all().line());
+fn reader(list: &mut Stored, line: ReaderLine) {
+    list.add(line.take_all().line());
 }
 
 /// Where the two zeros stand, and where not.
-fn gaps() {
+fn gaps(list: &mut Stored) {
     let new = WriterLine::new;
-    writer(new());
-    writer(new().text(*b"hi"));
-    writer(new().open(4).text(*b"hi").close(4));
-    writer(new().text(*b"e").open(3).text(*b"e"));
-    writer(new().text(*b"e").open(0).text(*b"e"));
-    writer(new().text(*b"e").close(2).text(*b"t"));
-    writer(new().text(*b"e").close(2).close(3));
-    writer(new().text(*b"e").close(0).close(0));
-    writer(new().close(3).text(*b"e").close(1));
-    writer(new().text(*b"e").open(0).close(2).text(*b"e"));
-    writer(new().text(*b"e").take(1).close(2).take(5).text(*b"t"));
+    writer(list, new());
+    writer(list, new().text(*b"hi"));
+    writer(list, new().open(4).text(*b"hi").close(4));
+    writer(list, new().text(*b"e").open(3).text(*b"e"));
+    writer(list, new().text(*b"e").open(0).text(*b"e"));
+    writer(list, new().text(*b"e").close(2).text(*b"t"));
+    writer(list, new().text(*b"e").close(2).close(3));
+    writer(list, new().text(*b"e").close(0).close(0));
+    writer(list, new().close(3).text(*b"e").close(1));
+    writer(list, new().text(*b"e").open(0).close(2).text(*b"e"));
+    writer(list, new().text(*b"e").take(1).close(2).take(5).text(*b"t"));
     for n in [0, 1, 2, 3, 5, 31] {
-        writer(new().open(n).text(*b"a").open(n).close(n));
+        writer(list, new().open(n).text(*b"a").open(n).close(n));
     }
-    writer((0..=u8::MAX).fold(new(), |line, byte| line.byte(byte).take_all()));
+    writer(list, (0..=u8::MAX).fold(new(), |line, byte| line.byte(byte).take_all()));
 }
 
 /// The queue just full, one bit too many, and a refused call that must change nothing.
-fn full_of_bits() {
+fn full_of_bits(list: &mut Stored) {
     let (new, full) = (WriterLine::new, BITS as u64);
     for n in [full + 1, 1 << 32, 1 << 63, u64::MAX - 1, u64::MAX] {
-        writer(new().open(n).close(n).text(*b"e").open(n).close(n).text(*b"e"));
+        writer(list, new().open(n).close(n).text(*b"e").open(n).close(n).text(*b"e"));
     }
-    writer(new().open(full).open(1).open(0).text(*b" ").close(0).close(1));
-    writer(new().close(full).close(1).text(*b" ").take(1).text(*b"  "));
+    writer(list, new().open(full).open(1).open(0).text(*b" ").close(0).close(1));
+    writer(list, new().close(full).close(1).text(*b" ").take(1).text(*b"  "));
     // A byte's gap and word fill the last five bits, or lack one.
     for room in [5, 4] {
-        writer(new().open(full - 1 - room).text(*b" tet ").open(0).text(*b" "));
+        writer(list, new().open(full - 1 - room).text(*b" tet ").open(0).text(*b" "));
     }
     // A closing's gap alone does not fit, just fits, fits with one more.
     for room in 1..=3 {
         writer(
+            list,
             new()
                 .open(full - 1 - room)
                 .text(*b" ")
@@ -80,37 +96,37 @@ fn full_of_bits() {
         );
     }
     // A refused opening does not forget the text before it.
-    writer(new().text(*b"e").open(full).text(*b"e"));
-    writer(new().open(full).take(1).text(*b" e").take(3).text(*b" e"));
+    writer(list, new().text(*b"e").open(full).text(*b"e"));
+    writer(list, new().open(full).take(1).text(*b" e").take(3).text(*b" e"));
 }
 
 /// Room freed by taking out is used again, round the array's end.
-fn round_the_bits(random: &mut Random) {
+fn round_the_bits(list: &mut Stored, random: &mut Random) {
     let mut line = WriterLine::new();
     for turn in 0..4 {
         line = line.open(turn).text(random.bytes(24)).close(5);
         let some = line.held() - 3;
         line = line.take(some);
     }
-    writer(line);
+    writer(list, line);
     let turns = (0..3).fold(WriterLine::new().open(BITS as u64), |line, n| {
         line.take(100).text(*b"relay").close(150 + n).take(60).open(50)
     });
-    writer(turns);
+    writer(list, turns);
 }
 
 /// Every string, with two zeros behind it to end its word.
-fn short_strings() {
+fn short_strings(list: &mut Stored) {
     for len in 0..=ALL_BITS {
         for word in 0..1u32 << len {
             let line = (0..len).fold(ReaderLine::new(), |line, at| line.put((word >> at & 1) as u8));
-            reader(line.take_all().bits("00"));
+            reader(list, line.take_all().bits("00"));
         }
     }
 }
 
 /// The bench sheet's, words of every length about the longest, zeros before them, and bits above 1 between.
-fn words_read() {
+fn words_read(list: &mut Stored) {
     let new = ReaderLine::new;
     for bits in [
         "11 00",
@@ -128,18 +144,18 @@ fn words_read() {
         "101 1010101011 00 11 00",
         "101011 00 1101 00",
     ] {
-        reader(new().bits(bits));
+        reader(list, new().bits(bits));
     }
     for ones in 8..=20 {
-        reader(new().bits(&"1".repeat(ones)).bits("00 11 00"));
+        reader(list, new().bits(&"1".repeat(ones)).bits("00 11 00"));
     }
     for ones in 1..=7 {
         let after = format!("{}0 1010101011 00 11 00", "1".repeat(ones));
-        reader(new().bits(&after));
+        reader(list, new().bits(&after));
     }
     for bit in [2, 3, 128, 254, 255] {
         let line = new().put(bit).bits("1").put(bit).bits("10").put(bit).bits("0").put(bit);
-        reader(line);
+        reader(list, line);
     }
 }
 
@@ -150,9 +166,10 @@ fn full() -> ReaderLine {
 }
 
 /// The queue full, the bit that ends one word too many, and room freed.
-fn full_of_characters() {
-    reader(full());
+fn full_of_characters(list: &mut Stored) {
+    reader(list, full());
     reader(
+        list,
         full()
             .bits("11 0")
             .put(0)
@@ -162,19 +179,33 @@ fn full_of_characters() {
             .take(1)
             .bits("0"),
     );
-    reader(full().bits("11 0").put(0).bits("1").put(2).bits("00"));
+    reader(list, full().bits("11 0").put(0).bits("1").put(2).bits("00"));
     // What is no word, and zeros alone, need no room.
-    reader(full().bits("1001 00 00 00 010 00"));
+    reader(list, full().bits("1001 00 00 00 010 00"));
     // 8 comes before 9.
-    reader(full().bits("11 0").put(2).put(0).put(255).take(1).put(2).put(0));
+    reader(list, full().bits("11 0").put(2).put(0).put(255).take(1).put(2).put(0));
 }
 
 /// Room freed by taking out is used again, round the array's end.
-fn round_the_characters(random: &mut Random) {
+fn round_the_characters(list: &mut Stored, random: &mut Random) {
     let mut line = full().take(50);
     for _ in 0..120 {
         line = line.bits(["1 00", "11 00", "10111 00"][random.below(3)]);
         line = line.take(random.below(3));
     }
-    reader(line);
+    reader(list, line);
+}
+
+/// Of each record everything that is inside taken out, and calls of every kind, some of which are refused.
+fn forged(list: &mut Stored, random: &mut Random) {
+    for _ in 0..FORGED {
+        let record = inputs::writer(random);
+        writer(list, WriterLine::forged(record.clone()));
+        let line = WriterLine::forged(record).take(random.below(3)).text(*b"e");
+        let line = line.open(random.below(BITS) as u64).close(random.below(BITS) as u64);
+        list.add(line.text(*b"t").take(3).line());
+        let record = inputs::reader(random);
+        reader(list, ReaderLine::forged(record.clone()));
+        list.add(ReaderLine::forged(record).put(2).bits("0 11 00").take(2).line());
+    }
 }

@@ -1,2 +1,0 @@
--- Spelling: a line's fields, and what a field of hex digits spells.
-pub mod Spelling

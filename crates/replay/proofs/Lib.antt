@@ -1,2 +1,0 @@
--- Moved: what one more byte adds to a copy to the front.
-pub mod Moved

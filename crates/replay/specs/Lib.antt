@@ -1,2 +1,0 @@
--- Count: what a verdict adds to the counts.
-pub mod Count
