@@ -1,4 +1,4 @@
-//! The proved functions of the crate `timing`, for the bench and the comparison: document 01 gives these entries no
+//! The proved functions of the crate `bench_calls`, for the bench and the comparison: document 01 gives these entries no
 //! door. A refusal is its number times 2^32 plus its place.
 
 mod foreign {

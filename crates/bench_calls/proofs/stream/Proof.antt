@@ -1,4 +1,4 @@
--- `timing::stream`. The invariant: after i turns the decoder's state and the bits at the front of out are those of the first i symbols. Assumes nothing.
+-- `bench_calls::stream`. The invariant: after i turns the decoder's state and the bits at the front of out are those of the first i symbols. Assumes nothing.
 use mathlib.Core.List.{List}
 use mathlib.Core.Path.{_≡_, refl, sym, ap, subst, _∙_}
 use Prim.Native.Nat.{ℕ, _+_, _-_, _*_, _/_, _≤_, _<_}
@@ -9,10 +9,10 @@ use Rattle.refusal.specs.Answer.{Said, accepted}
 use Rattle.refusal.specs.Lent.{leaves}
 use Rattle.streaming.specs.Held.{held}
 use Rattle.streaming.proofs.Draining.{Written, none-written}
-use Rattle.timing.specs.Stream.{heldAfter, bitsAfter, streamSaid}
-use Rattle.timing.proofs.Streamed.{held-next, written-within, one-streamed, stream-refused, stream-accepted, none-held, no-bits}
-use Rattle.timing.proofs.stream.Statement.{statement}
-use Rattle.timing.proofs.stream.Tie as tie
+use Rattle.bench_calls.specs.Stream.{heldAfter, bitsAfter, streamSaid}
+use Rattle.bench_calls.proofs.Streamed.{held-next, written-within, one-streamed, stream-refused, stream-accepted, none-held, no-bits}
+use Rattle.bench_calls.proofs.stream.Statement.{statement}
+use Rattle.bench_calls.proofs.stream.Tie as tie
 
 abbrev Inv-loop : tie.InvT-loop
 Inv-loop soft out₀ count d₀ written₀ i₀ out d written i = (i ≤ count) × (held d ≡ heldAfter soft i) × Written out₀ (bitsAfter soft i) i out written

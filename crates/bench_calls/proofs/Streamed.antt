@@ -19,7 +19,7 @@ use Rattle.streaming.specs.Said.{feedSaid, feedLeaves}
 use Rattle.streaming.specs.Stream.{State}
 use Rattle.streaming.proofs.Draining.{Written, refuses-when, accepts-when}
 use Rattle.trellis.specs.Choice.{k5}
-use Rattle.timing.specs.Stream.{bitsIn, heldAfter, bitsAfter, streamSaid}
+use Rattle.bench_calls.specs.Stream.{bitsIn, heldAfter, bitsAfter, streamSaid}
 
 -- a symbol brings one bit at most
 few-bits : (answer : Heard) → length (bitsIn (heardSaid answer)) ≤ 1

@@ -1,13 +1,13 @@
--- `timing::put_bit`, by the kind of the answer. Assumes nothing.
+-- `bench_calls::put_bit`, by the kind of the answer. Assumes nothing.
 use mathlib.Core.Path.{ap}
 use native.Mathlib.Omega.{arith}
 use borrow.Author.Needs.{needs}
 use Rattle.streaming.specs.declared.Heard.{Heard}
 use Rattle.streaming.specs.Held.{heardSaid}
-use Rattle.timing.specs.Stream.{bitsIn}
-use Rattle.timing.proofs.Streamed.{none-put, one-put}
-use Rattle.timing.proofs.put_bit.Statement.{statement}
-use Rattle.timing.proofs.put_bit.Tie as tie
+use Rattle.bench_calls.specs.Stream.{bitsIn}
+use Rattle.bench_calls.proofs.Streamed.{none-put, one-put}
+use Rattle.bench_calls.proofs.put_bit.Statement.{statement}
+use Rattle.bench_calls.proofs.put_bit.Tie as tie
 
 enum-known-answer : tie.Need-enum-known-answer
 enum-known-answer c = search needs

@@ -13,9 +13,9 @@ use Rattle.streaming.specs.Held.{lag, held}
 use Rattle.streaming.specs.Said.{flushSaid}
 use Rattle.streaming.proofs.Unique.{held-told}
 use Rattle.trellis.specs.Choice.{k5}
-use Rattle.timing.specs.Number.{FeedsNumber, FlushesNumber}
-use Rattle.timing.proofs.timed_viterbi_decode.Reads as timed-viterbi-decode
-use Rattle.timing.proofs.timed_stream.Reads as timed-stream
+use Rattle.bench_calls.specs.Number.{FeedsNumber, FlushesNumber}
+use Rattle.bench_calls.proofs.timed_viterbi_decode.Reads as timed-viterbi-decode
+use Rattle.bench_calls.proofs.timed_stream.Reads as timed-stream
 
 pub timed-decode-determined :
     (κs : _) (given : _) (r r' : ℕ) (left left' : _) → timed-viterbi-decode.Post κs given r left → timed-viterbi-decode.Post κs given r' left' → (r ≡ r') × (left .1 .0 .now ≡ left' .1 .0 .now) × (left .1 .1 .0 .now ≡ left' .1 .1 .0 .now)

@@ -1,13 +1,13 @@
--- `timing::heard_number`: its three arms. Assumes nothing.
+-- `bench_calls::heard_number`: its three arms. Assumes nothing.
 use mathlib.Core.Path.{_≡_, refl, sym, ap, _∙_}
 use Prim.Native.Nat.{ℕ}
 use borrow.Author.Needs.{needs}
 use Rattle.refusal.specs.Answer.{refused, doorNumber}
 use Rattle.streaming.specs.declared.Heard.{Heard}
 use Rattle.streaming.specs.Held.{heardSaid}
-use Rattle.timing.specs.Number.{bitOrTwo, heardNumber}
-use Rattle.timing.proofs.heard_number.Statement.{statement}
-use Rattle.timing.proofs.heard_number.Tie as tie
+use Rattle.bench_calls.specs.Number.{bitOrTwo, heardNumber}
+use Rattle.bench_calls.proofs.heard_number.Statement.{statement}
+use Rattle.bench_calls.proofs.heard_number.Tie as tie
 
 enum-known-answer : tie.Need-enum-known-answer
 enum-known-answer c = search needs

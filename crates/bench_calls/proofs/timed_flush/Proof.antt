@@ -1,4 +1,4 @@
--- `timing::timed_flush` meets its contract: a walk of its MIR, by hand. The decoder and the output are passed on to `streaming::flush` at their own lifetimes, shares and names, so that of them only the last values are had at exit; the answer goes to
+-- `bench_calls::timed_flush` meets its contract: a walk of its MIR, by hand. The decoder and the output are passed on to `streaming::flush` at their own lifetimes, shares and names, so that of them only the last values are had at exit; the answer goes to
 -- `refusal::count_number`. What the walk knows of the two is their contracts alone. Assumes nothing.
 use mathlib.Core.Path.{_≡_, refl, ap, _∙_}
 use mathlib.Core.List.{List, [], _∷_}
@@ -47,10 +47,10 @@ use Rattle.streaming.proofs.StreamingViterbi as decoder
 use Rattle.streaming.proofs.flush as flush
 use Rattle.streaming.proofs.flush.Symbol as flush-def
 use Rattle.streaming.proofs.flush.Met as flush-thm
-use Rattle.timing.proofs.timed_flush as door
-use Rattle.timing.proofs.timed_flush.Key as key
-use Rattle.timing.proofs.timed_flush.Statement.{statement}
-use Rattle.timing.proofs.timed_flush.Code as code
+use Rattle.bench_calls.proofs.timed_flush as door
+use Rattle.bench_calls.proofs.timed_flush.Key as key
+use Rattle.bench_calls.proofs.timed_flush.Statement.{statement}
+use Rattle.bench_calls.proofs.timed_flush.Code as code
 
 -- at exit nothing is had of the parameters but their last values
 abbrev stays : Stays (door.ended .signature .params) (door.ended .kept)

@@ -1,9 +1,9 @@
--- `timing::timed_viterbi_decode`: the decoder's answer as a number. Assumes nothing.
+-- `bench_calls::timed_viterbi_decode`: the decoder's answer as a number. Assumes nothing.
 use mathlib.Core.Path.{ap, _∙_}
 use borrow.Author.Needs.{needs}
 use Rattle.refusal.specs.Answer.{doorNumber}
-use Rattle.timing.proofs.timed_viterbi_decode.Statement.{statement}
-use Rattle.timing.proofs.timed_viterbi_decode.Tie as tie
+use Rattle.bench_calls.proofs.timed_viterbi_decode.Statement.{statement}
+use Rattle.bench_calls.proofs.timed_viterbi_decode.Tie as tie
 
 viterbi-decode-requires : tie.Need-viterbi-decode-requires
 viterbi-decode-requires c κs = search needs

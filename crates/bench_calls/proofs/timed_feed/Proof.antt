@@ -1,4 +1,4 @@
--- `timing::timed_feed` meets its contract: a walk of its MIR, by hand. The decoder is passed on to `streaming::feed` at its own lifetime, share and name, so that of it only the last value is had at exit; the answer goes to `heard_number`.
+-- `bench_calls::timed_feed` meets its contract: a walk of its MIR, by hand. The decoder is passed on to `streaming::feed` at its own lifetime, share and name, so that of it only the last value is had at exit; the answer goes to `heard_number`.
 -- What the walk knows of the two is their contracts alone. Assumes nothing.
 use mathlib.Core.Path.{_≡_, refl, ap, _∙_}
 use mathlib.Core.Bool.{true}
@@ -43,14 +43,14 @@ use Rattle.streaming.proofs.Heard.Laws as heard-laws
 use Rattle.streaming.proofs.feed as feed
 use Rattle.streaming.proofs.feed.Symbol as feed-def
 use Rattle.streaming.proofs.feed.Met as feed-thm
-use Rattle.timing.specs.Number.{heardNumber}
-use Rattle.timing.proofs.heard_number as number
-use Rattle.timing.proofs.heard_number.Symbol as number-def
-use Rattle.timing.proofs.heard_number.Met as number-thm
-use Rattle.timing.proofs.timed_feed as door
-use Rattle.timing.proofs.timed_feed.Key as key
-use Rattle.timing.proofs.timed_feed.Statement.{statement}
-use Rattle.timing.proofs.timed_feed.Code as code
+use Rattle.bench_calls.specs.Number.{heardNumber}
+use Rattle.bench_calls.proofs.heard_number as number
+use Rattle.bench_calls.proofs.heard_number.Symbol as number-def
+use Rattle.bench_calls.proofs.heard_number.Met as number-thm
+use Rattle.bench_calls.proofs.timed_feed as door
+use Rattle.bench_calls.proofs.timed_feed.Key as key
+use Rattle.bench_calls.proofs.timed_feed.Statement.{statement}
+use Rattle.bench_calls.proofs.timed_feed.Code as code
 
 -- at exit nothing is had of the parameters but the decoder's last value
 abbrev stays : Stays (door.ended .signature .params) (door.ended .kept)
@@ -108,4 +108,4 @@ timed-feed-spec 𝓤 H 𝓜 𝓖 𝓡 =
     entered 𝓤 H (tripleOf 𝓤 H (𝓖 .A) door.signature (door.spec 𝓤 H (𝓖 .A) (𝓜 .mem) (𝓡 .run))) (tables 𝓤 H 𝓜 𝓡 code.env .C) (tables 𝓤 H 𝓜 𝓡 code.env .Λ) key.name code.function (code.unfolded 𝓤 H 𝓜 𝓡)
     (meets 𝓤 H (𝓖 .A) W (𝓜 .mem) (𝓡 .run) (tablesOf 𝓤 H 𝓜 (tables 𝓤 H 𝓜 𝓡 code.env))
     (cited 𝓤 H (Feeding 𝓤 H (𝓖 .A) W (𝓜 .mem) (𝓡 .run)) 𝓜 𝓡 code.env feed-def.name feed-def.routine code.calls-streaming·feed (feed-thm.met 𝓤 H 𝓜 𝓖 𝓡))
-    (cited 𝓤 H (Numbering 𝓤 H (𝓖 .A) W (𝓜 .mem) (𝓡 .run)) 𝓜 𝓡 code.env number-def.name number-def.routine code.calls-timing·heard-number (number-thm.met 𝓤 H 𝓜 𝓖 𝓡)))
+    (cited 𝓤 H (Numbering 𝓤 H (𝓖 .A) W (𝓜 .mem) (𝓡 .run)) 𝓜 𝓡 code.env number-def.name number-def.routine code.calls-bench-calls·heard-number (number-thm.met 𝓤 H 𝓜 𝓖 𝓡)))

@@ -1,9 +1,9 @@
--- `timing::timed_stream`: the stream's answer as a number. Assumes nothing.
+-- `bench_calls::timed_stream`: the stream's answer as a number. Assumes nothing.
 use mathlib.Core.Path.{ap, _∙_}
 use borrow.Author.Needs.{needs}
 use Rattle.refusal.specs.Answer.{doorNumber}
-use Rattle.timing.proofs.timed_stream.Statement.{statement}
-use Rattle.timing.proofs.timed_stream.Tie as tie
+use Rattle.bench_calls.proofs.timed_stream.Statement.{statement}
+use Rattle.bench_calls.proofs.timed_stream.Tie as tie
 
 stream-requires : tie.Need-stream-requires
 stream-requires c κs = search needs
