@@ -1,7 +1,9 @@
 -- The state as the code holds it, and what its functions ensure. Definitions only.
+use mathlib.Core.Bool.{cond}
 use mathlib.Core.List.{List, [], _∷_}
 use mathlib.Core.Path.{_≡_}
-use Prim.Native.Nat.{ℕ}
+use Prim.Native.Nat.{ℕ, _%_, _^_}
+use lib.Dec.{eqb}
 use lib.Ieee.{Float}
 use Rattle.refusal.specs.Answer.{Said, accepted, refused, countSaid}
 use Rattle.refusal.specs.declared.Counted.{Counted}
@@ -14,7 +16,7 @@ use Rattle.streaming.specs.declared.Stepped.{Stepped}
 use Rattle.streaming.specs.declared.Fed.{Fed}
 use Rattle.streaming.specs.declared.Drained.{Drained}
 use Rattle.streaming.specs.declared.Flushed.{Flushed}
-use Rattle.streaming.specs.Stream.{State}
+use Rattle.streaming.specs.Stream.{State, turns, normalised}
 use Rattle.streaming.specs.Said.{feedSaid, feedLeaves, flushSaid, flushLeaves}
 
 -- the lag that is selected
@@ -27,6 +29,12 @@ standing front history = record { pm = front .pm; history = history; count = fro
 
 abbrev pub held : StreamingViterbi → State
 held d = standing (d .front) (d .history)
+
+-- a front after one whose symbols so far mod 256 were `old`: normalised where that is 255, the counters as they come
+pub record NormalisedAfter (old : ℕ) (front r : Front) : Type 0 where
+  pub pm : r .pm ≡ cond (eqb (old % turns) 255) (normalised (2 ^ k5 .width) (front .pm)) (front .pm)
+  pub count : r .count ≡ front .count
+  pub turn : r .turn ≡ front .turn
 
 -- no bit, or one, or the refusal's number and place
 abbrev pub heardSaid : Heard → Said (List ℕ)

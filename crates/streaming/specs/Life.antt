@@ -1,5 +1,5 @@
--- The life of a decoder, from a fresh one on: which calls were made, which symbols were accepted, and the state to which
--- they lead. A flush is as many symbols (0, 0) as the lag. Over any code and lag. Definitions only.
+-- The life of a decoder, from a fresh one on: which calls were made, which symbols were accepted, and the state to
+-- which they lead. A flush is as many symbols (0, 0) as the lag. Over any code and lag. Definitions only.
 use mathlib.Core.Bool.{true, cond}
 use mathlib.Core.List.{List, [], _∷_, _++_}
 use mathlib.Core.Path.{_≡_}

@@ -113,12 +113,12 @@ fn advance(front: Front, history: &mut [u8; 2048], re: f32, im: f32) -> Front
     select(re, im, &old, &mut pm, &mut froms[..]);
     let row = (front.turn % 128) as usize;
     keep(&pm, &froms, 16 * row, history);
-    normalise_after(front.turn, &mut pm);
-    Front {
+    let next = Front {
         pm,
         count: next_count(front.count),
         turn: next_turn(front.turn),
-    }
+    };
+    normalise_after(front.turn, next)
 }
 
 // The bit that the last symbol gives, where there is one.

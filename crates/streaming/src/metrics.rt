@@ -1,12 +1,12 @@
 // The metrics of a symbol: add, compare, select; and normalisation.
-ghost use mathlib.Core.Bool.{cond};
 ghost use mathlib.Core.List.{_++_};
 ghost use mathlib.Core.Path.{_≡_};
-ghost use Prim.Native.Nat.{_%_, _≤_};
-ghost use lib.Dec.{eqb};
+ghost use Prim.Native.Nat.{_≤_};
 ghost use lib.ListN.{length, drop};
 ghost use Rattle.symbols.specs.Post.{newMets, newFroms};
-ghost use Rattle.streaming.specs.Stream.{turns, leastOf, lowered, normalised};
+ghost use Rattle.streaming.specs.Stream.{leastOf, lowered, normalised};
+ghost use Rattle.streaming.specs.Held.{NormalisedAfter};
+use crate::Front;
 use crate::sent::SENT0;
 use crate::sent::SENT1;
 use branches::smallest::MARK;
@@ -44,7 +44,7 @@ fn lower(least: f32, m: f32) -> f32
 }
 
 // The least reachable metric, if above 0, is subtracted from each reachable one.
-fn normalise(pm: &mut [f32; 16])
+fn subtract_least(pm: &mut [f32; 16])
     ensures { λ _. ⌜ now (pm .exit) ≡ normalised 16 (now (pm .entry)) ⌝ }
 {
     // Lent as a slice, the array tells its length.
@@ -57,11 +57,18 @@ fn normalise(pm: &mut [f32; 16])
     }
 }
 
-// Normalisation when the old count mod 256 is 255.
-pub fn normalise_after(turn: u8, pm: &mut [f32; 16])
-    ensures { λ _. ⌜ now (pm .exit) ≡ cond (eqb (turn % turns) 255) (normalised 16 (now (pm .entry))) (now (pm .entry)) ⌝ }
+// Normalisation when the old count mod 256 is 255: the front by value, its counters as they come.
+pub fn normalise_after(turn: u8, front: Front) -> Front
+    ensures { λ r. ⌜ NormalisedAfter turn front r ⌝ }
 {
     if turn == 255 {
-        normalise(pm);
+        let mut pm = front.pm;
+        subtract_least(&mut pm);
+        return Front {
+            pm,
+            count: front.count,
+            turn: front.turn,
+        };
     }
+    front
 }

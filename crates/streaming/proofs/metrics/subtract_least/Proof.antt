@@ -1,14 +1,14 @@
--- `streaming::metrics::normalise`. The invariant: the metrics of the states below s are lowered. Assumes nothing.
-use mathlib.Core.Path.{_≡_, refl, sym, ap, _∙_}
-use Prim.Native.Nat.{ℕ, _-_, _≤_}
+-- `streaming::metrics::subtract_least`. The invariant: the metrics of the states below s are lowered. Assumes nothing.
+use mathlib.Core.Path.{_≡_, refl, _∙_}
+use Prim.Native.Nat.{_-_, _≤_}
 use native.Mathlib.Omega.{arith}
 use borrow.Author.Needs.{needs}
 use lib.Ieee.{nan}
 use lib.ListN.{length, length-set}
 use Rattle.streaming.specs.Stream.{lowered}
 use Rattle.streaming.proofs.Normal.{mapFirst, map-first-none, map-first-next, map-first-all, normalised-where-above, normalised-where-not}
-use Rattle.streaming.proofs.metrics.normalise.Statement.{statement}
-use Rattle.streaming.proofs.metrics.normalise.Tie as tie
+use Rattle.streaming.proofs.metrics.subtract_least.Statement.{statement}
+use Rattle.streaming.proofs.metrics.subtract_least.Tie as tie
 
 abbrev Inv-loop : tie.InvT-loop
 Inv-loop pm₀ least s₀ pm s = (s ≤ 16) × (length pm ≡ length pm₀) × (pm ≡ mapFirst (lowered least) s pm₀)
@@ -67,8 +67,8 @@ returns-2 : tie.Need-returns-2 Inv-loop μ-loop
 returns-2 c =
     normalised-where-not (c .before .before .before .before .before .args .pm .now) 16 (c .before .least-of .result) (c .before .least-of .ensures) (c .if1 .left)
 
-pub normalise-spec : {M : Type 1} → statement M
-normalise-spec =
+pub subtract-least-spec : {M : Type 1} → statement M
+subtract-least-spec =
     tie.close
     (tie.spec
     Inv-loop
