@@ -41,11 +41,12 @@ module _ (front next : Front) (history left : List ℕ) (re im : Float) where
 
 pub none-given : (st : State) → st .count ≤ lag → given k5 lag st ≡ []
 unfolding given
-none-given st h = rw (le-ltb lag (st .count) h)
+none-given st h = ap (λ (due : Bool). cond due (bitBehind k5 lag st ∷ []) []) (le-ltb lag (st .count) h)
 
 pub one-given : (st : State) (b : ℕ) → lag < st .count → b ≡ bitBehind k5 lag st → given k5 lag st ≡ b ∷ []
 unfolding given
-one-given st b h e = rw (lt-ltb lag (st .count) h, e)
+one-given st b h e =
+    ap (λ (due : Bool). cond due (bitBehind k5 lag st ∷ []) []) (lt-ltb lag (st .count) h) ∙ ap (λ (bit : ℕ). bit ∷ []) (sym e)
 
 -- ---- the answers
 
