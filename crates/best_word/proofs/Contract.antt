@@ -1,6 +1,6 @@
--- From the contracts of `viterbi_decode_soft_with` and `viterbi_decode_bytes` to the claim. Whatever outcome the contract allows: where the
--- used readings are whole and within the sum, an accepted call has left a word in the output and answered a score of which the claim holds,
--- and no call is refused with 6. Assumes nothing.
+-- From the promise of `viterbi_decode_soft_with` and `viterbi_decode_bytes` to the claim. Whatever outcome the contract
+-- allows: where the used readings are whole and within the sum, an accepted call has left a word in the output and answered a
+-- score of which the claim holds, and no call is refused with 6. Assumes nothing.
 use mathlib.Core.Bool.{Bool, true, false, not}
 use mathlib.Core.List.{List}
 use mathlib.Core.Path.{_≡_, sym, ap, _∙_}
@@ -15,14 +15,15 @@ use lib.Seq.{take-at}
 use Rattle.f32s.specs.Single.{finite, allOfBytes}
 use Rattle.f32s.proofs.Wholes.{whole-finite}
 use Rattle.readings.specs.Decode.{word, score}
+use Rattle.readings.specs.Promise.{Decodes}
 use Rattle.readings.specs.Said.{survivorsOf, examined, decodeSaid}
 use Rattle.readings.proofs.Answers.{accepted-score}
 use Rattle.readings.proofs.Counts.{length-word}
 use Rattle.readings.proofs.viterbi_decode_bytes.Reads as viterbi-decode-bytes
 use Rattle.readings.proofs.viterbi_decode_soft_with.Reads as viterbi-decode-soft-with
-use Rattle.refusal.specs.Answer.{Said, accepted, refused, refuseWhen, wordSaid}
+use Rattle.refusal.specs.Answer.{Said, accepted, refused, refuseWhen, Scores}
 use Rattle.refusal.specs.declared.Decoded.{Decoded}
-use Rattle.refusal.specs.Lent.{over, leaves}
+use Rattle.refusal.specs.Lent.{over, leaves, Lent}
 use Rattle.refusal.specs.Limits.{most}
 use Rattle.refusal.proofs.FirstBad.{all-good, none-bad}
 use Rattle.trellis.specs.Choice.{knownCode, codeOf, knownRate, patternOf}
@@ -31,12 +32,12 @@ use Rattle.trellis.specs.Keep.{codedLength}
 use Rattle.best_word.specs.Claim.{Exact, ClaimOfCall}
 use Rattle.best_word.proofs.Claimed.{decoded-word-wins}
 
--- ---- of what the contracts cite
+-- ---- of what the promise cites
 
 -- a refusal with another number comes from a later test
 past-other :
-    {A : Type 0} (test : Bool) (number n place : ℕ) (rest : Said A) → (number ≡ n → ⊥) → refuseWhen test number rest ≡ refused n place →
-    rest ≡ refused n place
+    {A : Type 0} (test : Bool) (number n place : ℕ) (rest : Said A) → (number ≡ n → ⊥) →
+    refuseWhen test number rest ≡ refused n place → rest ≡ refused n place
 past-other true number n place rest other e = absurd (other (cc))
 past-other false number n place rest other e = e
 
@@ -57,14 +58,16 @@ module _ (code rate info : ℕ) (readings : List Float) (room scratch : ℕ) whe
       ∙ take-at decoded _ info (length-word (codeOf code) (patternOf rate) readings info)
 
   -- whole readings are finite
-  finite-used : (zs : List ℤ) → Exact (codeOf code) (patternOf rate) info readings zs → (rest : Said Float) → examined used rest ≡ rest
+  finite-used :
+      (zs : List ℤ) → Exact (codeOf code) (patternOf rate) info readings zs → (rest : Said Float) → examined used rest ≡ rest
   finite-used zs exact rest =
       let whole = exact .whole in
       let all = all-good finite used (λ i h. whole-finite (whole .each i (omega (arith, whole .sized)))) in
       none-bad finite 6 used rest (length used) (sym all) (le-refl (length used))
 
   -- so no test is left that refuses with 6
-  none-6 : (zs : List ℤ) → Exact (codeOf code) (patternOf rate) info readings zs → (place : ℕ) → said ≡ refused 6 place → ⊥
+  none-6 :
+      (zs : List ℤ) → Exact (codeOf code) (patternOf rate) info readings zs → (place : ℕ) → said ≡ refused 6 place → ⊥
   unfolding decodeSaid
   none-6 zs exact place e =
       let known-code = past-other (not (knownCode code)) 1 6 place _ (λ h. omega arith) e in
@@ -75,27 +78,37 @@ module _ (code rate info : ℕ) (readings : List Float) (room scratch : ℕ) whe
       let never : _≡_ {A = ℕ} 0 1 = cc (finite-used zs exact (accepted (score (codeOf code) (patternOf rate) readings info))) in
       omega arith
 
-  claim-of :
-      (r : Decoded) (new old : List ℕ) → wordSaid r ≡ said → new ≡ leaves said decoded old → ClaimOfCall code rate info readings r new
-  claim-of r new old answer output =
-      record {
-        accepts = λ zs exact s e.
-            let accepts : said ≡ accepted s = sym answer ∙ e in
-            rw (written s accepts new old output, accepted-score code rate info readings room scratch s accepts)
-            (decoded-word-wins code rate info readings zs exact);
-        never-6 = λ zs exact place e. none-6 zs exact place (sym answer ∙ e);
-      }
+-- ---- of the promise
+
+promise-claimed :
+    (code rate info : ℕ) (readings : List Float) {r : Decoded} {out scratch : Lent ℕ} →
+    Decodes (Scores r) code rate info readings out scratch → ClaimOfCall code rate info readings r (out .left)
+promise-claimed code rate info readings {r} {out} {scratch} promised =
+    let room = length (out .given) in
+    let work = length (scratch .given) in
+    record {
+      accepts = λ zs exact s e.
+          let accepts : said code rate info readings room work ≡ accepted s = sym (promised .answer) ∙ e in
+          rw (
+            written code rate info readings room work s accepts (out .left) (out .given) (promised .output),
+            accepted-score code rate info readings room work s accepts,
+          )
+          (decoded-word-wins code rate info readings zs exact);
+      never-6 = λ zs exact place e. none-6 code rate info readings room work zs exact place (sym (promised .answer) ∙ e);
+    }
 
 -- ---- of the contracts
 
--- `given` has the entry's arguments in its order: code, readings, info, rate, out, scratch; and `left` what is left in each.
-
 pub soft-with-claimed :
-    (κs : _) (given : _) (r : Decoded) (left : _) → viterbi-decode-soft-with.Post κs given r left →
-    ClaimOfCall (given .0) (given .1 .1 .1 .0) (given .1 .1 .0) (given .1 .0 .now) r (left .1 .1 .1 .1 .0 .now)
-soft-with-claimed κs given r left allowed = claim-of _ _ _ _ _ _ r _ _ (allowed .0) (allowed .1 .0)
+    (κs code readings info rate out scratch : _) (r : Decoded) (left work : _) →
+    viterbi-decode-soft-with.Post κs (code, (readings, (info, (rate, (out, (scratch, tt)))))) r
+    (code, (readings, (info, (rate, (left, (work, tt)))))) →
+    ClaimOfCall code rate info (readings .now) r (left .now)
+soft-with-claimed κs code readings info rate out scratch r left work = promise-claimed code rate info (readings .now)
 
 pub bytes-claimed :
-    (κs : _) (given : _) (r : Decoded) (left : _) → viterbi-decode-bytes.Post κs given r left →
-    ClaimOfCall (given .0) (given .1 .1 .1 .0) (given .1 .1 .0) (allOfBytes (given .1 .0 .now)) r (left .1 .1 .1 .1 .0 .now)
-bytes-claimed κs given r left allowed = claim-of _ _ _ _ _ _ r _ _ (allowed .0) (allowed .1 .0)
+    (κs code bytes info rate out scratch : _) (r : Decoded) (left work : _) →
+    viterbi-decode-bytes.Post κs (code, (bytes, (info, (rate, (out, (scratch, tt)))))) r
+    (code, (bytes, (info, (rate, (left, (work, tt)))))) →
+    ClaimOfCall code rate info (allOfBytes (bytes .now)) r (left .now)
+bytes-claimed κs code bytes info rate out scratch r left work = promise-claimed code rate info (allOfBytes (bytes .now))

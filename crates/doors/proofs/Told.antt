@@ -60,13 +60,19 @@ length-tells code rate count = count-tells _ (crosses-checked itself code rate c
 
 pub decode-tells :
     (code rate info : ℕ) (readings : List Float) (room scratch : ℕ) →
-    doorRead (doorNumber (scoreBits (decodeSaid code rate info readings room scratch))) ≡ scoreBits (decodeSaid code rate info readings room scratch)
+    doorRead (doorNumber (scoreBits (decodeSaid code rate info readings room scratch)))
+    ≡ scoreBits (decodeSaid code rate info readings room scratch)
 unfolding decodeSaid
 decode-tells code rate info readings room scratch =
     let bits : Float → ℕ = toBits binary32 in
     let used = take (lengthOf code rate info) readings in
     let few-used : info ≤ most → length used < 2 ^ 32 =
-    λ few. omega (arith, length-take (lengthOf code rate info) readings, min-le-left (lengthOf code rate info) (length readings), length-below code rate info few) in
+    λ few. omega (
+      arith,
+      length-take (lengthOf code rate info) readings,
+      min-le-left (lengthOf code rate info) (length readings),
+      length-below code rate info few,
+    ) in
     score-tells _
     (crosses-checked bits code rate info _
     (λ few. crosses-unless bits (ltb room info) 4 _ (omega arith)

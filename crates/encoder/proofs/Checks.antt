@@ -1,19 +1,70 @@
--- The refusals in their order: what the coded length accepts, the encoder checks no further, and what it refuses is refused. Assumes nothing.
+-- The refusals in their order: each test's law, and what the encoder takes over from the coded length. Assumes nothing.
 use mathlib.Core.Bool.{Bool, true, false, not}
-use mathlib.Core.List.{List}
 use mathlib.Core.Path.{_≡_, refl, sym, ap, _∙_}
 use Prim.Native.Nat.{ℕ, _*_, _≤_, _<_}
 use native.Mathlib.Omega.{arith}
 use borrow.Author.Tests.{lt-ltb, le-ltb, ltb-false}
 use lib.Dec.{ltb}
+use lib.ListN.{length}
 use Rattle.refusal.specs.declared.Counted.{Counted}
 use Rattle.refusal.specs.declared.Counted.the-variants as counted
 use Rattle.refusal.specs.declared.Refusal.{Refusal}
-use Rattle.refusal.specs.Answer.{Said, accepted, refused, countSaid, refuseWhen}
-use Rattle.refusal.specs.Lent.{leaves}
+use Rattle.refusal.specs.Answer.{Said, accepted, refused, refuseWhen, countSaid, Counts}
 use Rattle.refusal.specs.Limits.{most}
-use Rattle.trellis.specs.Choice.{knownCode, knownRate}
-use Rattle.encoder.specs.Encode.{lengthOf, written, lengthSaid, encodeSaid, plainSaid}
+use Rattle.refusal.proofs.Told.{accepted-past}
+use Rattle.trellis.specs.Choice.{codes, knownCode, patterns, knownRate}
+use Rattle.encoder.specs.Encode.{lengthOf, checked, written, lengthSaid, encodeSaid, plainSaid}
+
+-- ---- the tests that every call makes, lowest number first
+
+module _ {A : Type 0} (code rate count : ℕ) (rest : Said A) where
+  pub no-code : length codes ≤ code → checked code rate count rest ≡ refused 1 0
+  no-code h = rw (le-ltb code (length codes) h)
+
+  module _ (known : code < length codes) where
+    pub no-rate : length patterns ≤ rate → checked code rate count rest ≡ refused 2 0
+    no-rate h = rw (lt-ltb code (length codes) known, le-ltb rate (length patterns) h)
+
+    module _ (known' : rate < length patterns) where
+      pub too-many : most < count → checked code rate count rest ≡ refused 3 0
+      too-many h = rw (lt-ltb code (length codes) known, lt-ltb rate (length patterns) known', lt-ltb most count h)
+
+      pub passes : count ≤ most → checked code rate count rest ≡ rest
+      passes h = rw (lt-ltb code (length codes) known, lt-ltb rate (length patterns) known', le-ltb most count h)
+
+-- what was accepted passed them
+pub checked-past :
+    {A : Type 0} (code rate count : ℕ) (rest : Said A) (a : A) → checked code rate count rest ≡ accepted a → rest ≡ accepted a
+checked-past code rate count rest a e =
+    accepted-past (ltb most count) 3 rest a
+    (accepted-past (not (knownRate rate)) 2 _ a
+    (accepted-past (not (knownCode code)) 1 _ a
+    e))
+
+-- ---- the coded length
+
+module _ (code rate count : ℕ) where
+  abbrev answer : Said ℕ
+  answer = accepted (lengthOf code rate count)
+
+  pub length-no-code : length codes ≤ code → lengthSaid code rate count ≡ refused 1 0
+  unfolding lengthSaid
+  length-no-code h = no-code code rate count answer h
+
+  pub length-no-rate : code < length codes → length patterns ≤ rate → lengthSaid code rate count ≡ refused 2 0
+  unfolding lengthSaid
+  length-no-rate known h = no-rate code rate count answer known h
+
+  pub length-too-many :
+      code < length codes → rate < length patterns → most < count → lengthSaid code rate count ≡ refused 3 0
+  unfolding lengthSaid
+  length-too-many known known' h = too-many code rate count answer known known' h
+
+  pub length-is : code < length codes → rate < length patterns → count ≤ most → lengthSaid code rate count ≡ answer
+  unfolding lengthSaid
+  length-is known known' h = passes code rate count answer known known' h
+
+-- ---- what the encoder takes over from the coded length
 
 abbrev three : Bool → Bool → Bool → Said ℕ → Said ℕ
 three a b c rest = refuseWhen a 1 (refuseWhen b 2 (refuseWhen c 3 rest))
@@ -32,28 +83,31 @@ through false true c n m e = absurd (apart 2 0 m e)
 through false false true n m e = absurd (apart 3 0 m e)
 through false false false n m e = record { same = cc; third = refl; rest = λ s. refl }
 
-stopped : (a b c : Bool) (n number place : ℕ) → three a b c (accepted n) ≡ refused number place → (s : Said ℕ) → three a b c s ≡ refused number place
+stopped :
+    (a b c : Bool) (n number place : ℕ) → three a b c (accepted n) ≡ refused number place →
+    (s : Said ℕ) → three a b c s ≡ refused number place
 stopped true b c n number place e s = e
 stopped false true c n number place e s = e
 stopped false false true n number place e s = e
 stopped false false false n number place e s = absurd (apart number place n (sym e))
 
--- the coded length is n, and all that the encoder still checks is its room
+-- the coded length is n, and all that the encoder still tests is its room
 pub record Passed (code rate count n : ℕ) : Type 0 where
   pub need : lengthOf code rate count ≡ n
   pub few : count ≤ most
   pub said : (room : ℕ) → encodeSaid code rate count room ≡ written n room
 
-pub said-short : (code rate count n room : ℕ) → Passed code rate count n → room < n → encodeSaid code rate count room ≡ refused 4 0
-said-short code rate count n room p h = p .said room ∙ ap (λ (b : Bool). refuseWhen b 4 (accepted n)) (lt-ltb room n h)
+module _ {code rate count n : ℕ} (passed : Passed code rate count n) (room : ℕ) where
+  pub said-short : room < n → encodeSaid code rate count room ≡ refused 4 0
+  said-short h = passed .said room ∙ rw (lt-ltb room n h)
 
-pub said-fits : (code rate count n room : ℕ) → Passed code rate count n → n ≤ room → encodeSaid code rate count room ≡ accepted n
-said-fits code rate count n room p h = p .said room ∙ ap (λ (b : Bool). refuseWhen b 4 (accepted n)) (le-ltb room n h)
+  pub said-fits : n ≤ room → encodeSaid code rate count room ≡ accepted n
+  said-fits h = passed .said room ∙ rw (le-ltb room n h)
 
-module _ (code rate count : ℕ) (answer : Counted) (told : countSaid answer ≡ lengthSaid code rate count) where
-  pub passed : (n : ℕ) → answer ≡ counted.Count n → Passed code rate count n
+module _ (code rate count : ℕ) {answer : Counted} (told : Counts answer (lengthSaid code rate count)) where
+  pub length-passed : {n : ℕ} → answer ≡ counted.Count n → Passed code rate count n
   unfolding lengthSaid encodeSaid
-  passed n e =
+  length-passed {n} e =
       let t =
       through (not (knownCode code)) (not (knownRate rate)) (ltb most count) (lengthOf code rate count) n
       (sym told ∙ ap countSaid e) in
@@ -64,30 +118,24 @@ module _ (code rate count : ℕ) (answer : Counted) (told : countSaid answer ≡
       }
 
   -- a refusal of the coded length is the encoder's
-  pub refused-too : (r : Refusal) → answer ≡ counted.Refused r → (room : ℕ) → encodeSaid code rate count room ≡ countSaid answer
+  pub length-refused :
+      {r : Refusal} → answer ≡ counted.Refused r → (room : ℕ) →
+      encodeSaid code rate count room ≡ refused (r .number) (r .place)
   unfolding lengthSaid encodeSaid
-  refused-too r e room =
+  length-refused {r} e room =
       stopped (not (knownCode code)) (not (knownRate rate)) (ltb most count) (lengthOf code rate count) (r .number) (r .place)
       (sym told ∙ ap countSaid e) (written (lengthOf code rate count) room)
-      ∙ sym (ap countSaid e)
-
-  pub kept-too :
-      (r : Refusal) → answer ≡ counted.Refused r → (room : ℕ) (new old : List ℕ) → old ≡ leaves (encodeSaid code rate count room) new old
-  kept-too r e room new old = rw (refused-too r e room, e)
 
 -- ---- the plain encoder
 
 pub plain-many : (count room : ℕ) → most < count → plainSaid count room ≡ refused 3 0
 unfolding plainSaid
-plain-many count room h = ap (λ (b : Bool). refuseWhen b 3 (written (2 * count) room)) (lt-ltb most count h)
-
--- what is not too much is only checked for room
-plain-few : (count room : ℕ) → count ≤ most → plainSaid count room ≡ written (2 * count) room
-unfolding plainSaid
-plain-few count room h = ap (λ (b : Bool). refuseWhen b 3 (written (2 * count) room)) (le-ltb most count h)
+plain-many count room h = rw (lt-ltb most count h)
 
 pub plain-short : (count room : ℕ) → count ≤ most → room < 2 * count → plainSaid count room ≡ refused 4 0
-plain-short count room few h = plain-few count room few ∙ ap (λ (b : Bool). refuseWhen b 4 (accepted (2 * count))) (lt-ltb room (2 * count) h)
+unfolding plainSaid
+plain-short count room few h = rw (le-ltb most count few, lt-ltb room (2 * count) h)
 
 pub plain-fits : (count room : ℕ) → count ≤ most → 2 * count ≤ room → plainSaid count room ≡ accepted (2 * count)
-plain-fits count room few h = plain-few count room few ∙ ap (λ (b : Bool). refuseWhen b 4 (accepted (2 * count))) (le-ltb room (2 * count) h)
+unfolding plainSaid
+plain-fits count room few h = rw (le-ltb most count few, le-ltb room (2 * count) h)

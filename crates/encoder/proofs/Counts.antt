@@ -1,18 +1,18 @@
 -- The count in an accepted answer is how many bits are written, and the coded length is that of the codeword. Assumes nothing.
-use mathlib.Core.Bool.{not}
 use mathlib.Core.List.{List}
 use mathlib.Core.Path.{_≡_, _∙_}
 use Prim.Native.Nat.{ℕ, _*_}
 use lib.Dec.{ltb}
 use lib.ListN.{length}
-use Rattle.refusal.specs.Answer.{Said, accepted}
+use Rattle.refusal.specs.Answer.{accepted}
 use Rattle.refusal.specs.Limits.{most}
 use Rattle.refusal.proofs.Told.{accepted-past, accepted-told}
-use Rattle.trellis.specs.Choice.{k5, half, knownCode, codeOf, knownRate, patternOf}
+use Rattle.trellis.specs.Choice.{k5, half, codeOf, patternOf}
 use Rattle.trellis.specs.Codeword.{lowestBits}
 use Rattle.trellis.proofs.Chosen.{rate-pattern, half-length}
 use Rattle.trellis.proofs.Sent.{length-sent, length-codeword}
-use Rattle.encoder.specs.Encode.{lengthOf, checked, written, lengthSaid, encodeSaid, encodeWord, plainSaid, plainWord}
+use Rattle.encoder.specs.Encode.{lengthOf, written, lengthSaid, encodeSaid, encodeWord, plainSaid, plainWord}
+use Rattle.encoder.proofs.Checks.{checked-past}
 
 length-encoded : (code rate : ℕ) (info : List ℕ) → length (encodeWord code rate info) ≡ lengthOf code rate (length info)
 length-encoded code rate info = length-codeword (codeOf code) (patternOf rate) (rate-pattern rate) info
@@ -21,11 +21,7 @@ length-plain : (bits : List ℕ) → length (plainWord bits) ≡ 2 * length bits
 unfolding plainWord patternOf
 length-plain bits = length-sent k5 half (rate-pattern 0) (lowestBits bits) (length bits) ∙ half-length (length bits)
 
--- what was accepted passed the checks, and had room
-checked-past : {A : Type 0} (code rate count : ℕ) (rest : Said A) (a : A) → checked code rate count rest ≡ accepted a → rest ≡ accepted a
-checked-past code rate count rest a e =
-    accepted-past (ltb most count) 3 rest a (accepted-past (not (knownRate rate)) 2 _ a (accepted-past (not (knownCode code)) 1 _ a e))
-
+-- what was accepted had room
 written-past : (need room n : ℕ) → written need room ≡ accepted n → need ≡ n
 written-past need room n e = accepted-told need n (accepted-past (ltb room need) 4 (accepted need) n e)
 
@@ -34,14 +30,17 @@ pub length-count :
     (code rate : ℕ) (info : List ℕ) (n : ℕ) → lengthSaid code rate (length info) ≡ accepted n → length (encodeWord code rate info) ≡ n
 unfolding lengthSaid
 length-count code rate info n e =
-    length-encoded code rate info ∙ accepted-told _ n (checked-past code rate (length info) (accepted (lengthOf code rate (length info))) n e)
+    length-encoded code rate info
+    ∙ accepted-told _ n (checked-past code rate (length info) (accepted (lengthOf code rate (length info))) n e)
 
 -- `conv_encode_punctured_with`
 pub encode-count :
-    (code rate room : ℕ) (info : List ℕ) (n : ℕ) → encodeSaid code rate (length info) room ≡ accepted n → length (encodeWord code rate info) ≡ n
+    (code rate room : ℕ) (info : List ℕ) (n : ℕ) → encodeSaid code rate (length info) room ≡ accepted n →
+    length (encodeWord code rate info) ≡ n
 unfolding encodeSaid
 encode-count code rate room info n e =
-    length-encoded code rate info ∙ written-past _ room n (checked-past code rate (length info) (written (lengthOf code rate (length info)) room) n e)
+    length-encoded code rate info
+    ∙ written-past _ room n (checked-past code rate (length info) (written (lengthOf code rate (length info)) room) n e)
 
 -- `conv_encode`
 pub plain-count : (room : ℕ) (bits : List ℕ) (n : ℕ) → plainSaid (length bits) room ≡ accepted n → length (plainWord bits) ≡ n

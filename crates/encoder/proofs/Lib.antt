@@ -1,5 +1,5 @@
--- Turn: a turn of the encoder's loop. Selected: what the code and rate numbers select, as the code holds it. Checks: the refusals in their order.
--- Counts: an accepted count is how many bits are written. Unique: each contract allows one outcome at most.
+-- Turn: the turns of the encoder's loop. Selected: what the code and rate numbers select. Checks: the refusals in their
+-- order. Counts: an accepted count is how many bits are written. Unique: each contract allows one outcome at most.
 pub mod Turn
 pub mod Selected
 pub mod Checks

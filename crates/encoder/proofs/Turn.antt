@@ -1,29 +1,32 @@
--- A turn of the encoder's loop: what its two puts add is what the step sends. Over any code and keep pattern. Assumes nothing.
+-- The turns of the encoder's loop: what its two puts add is what the step sends. Over any code and keep pattern. Assumes
+-- nothing.
 use mathlib.Core.Bool.{Bool}
 use mathlib.Core.List.{List, [], _++_, append-assoc}
 use mathlib.Core.Path.{_≡_, refl, sym, ap, _∙_}
 use Prim.Native.Nat.{ℕ, suc, _+_, _%_, _≤_, _<_}
-use native.Mathlib.Nat.{mod-lt}
+use native.Mathlib.Nat.{mod-lt, mod-eq-of-lt}
 use native.Mathlib.Numerals.{add-one}
 use native.Mathlib.Omega.{arith}
 use lib.Dec.{eqb}
 use lib.ListN.{length, getD, take, length-append}
-use Rattle.refusal.specs.Lent.{over}
-use Rattle.refusal.proofs.Over.{over-none, over-more}
+use lib.Seq.{length-take-le}
+use Rattle.refusal.specs.Lent.{over, Lent}
+use Rattle.refusal.proofs.Over.{over-none, over-more, length-over}
 use Rattle.trellis.specs.declared.ConvCode.{ConvCode}
 use Rattle.trellis.specs.declared.KeepPattern.{KeepPattern}
 use Rattle.trellis.specs.declared.Pair.{Pair}
 use Rattle.trellis.specs.Choice.{keepOf}
 use Rattle.trellis.specs.Codeword.{coded0, coded1, sentBy, lowestBits}
 use Rattle.trellis.specs.Keep.{Keep, keeps0, keeps1, onlyIf, keptOf, keptThrough, codedLength}
-use Rattle.trellis.specs.Post.{Narrow, Taken, Branched, Rows}
+use Rattle.trellis.specs.Post.{Taken, Branched}
 use Rattle.trellis.specs.State.{nextState, stateAfter}
-use Rattle.trellis.proofs.Columns.{rows-pattern, keeps0-column, keeps1-column}
+use Rattle.trellis.proofs.Columns.{rows-pattern, keeps0-column, keeps1-column, column-next}
 use Rattle.trellis.proofs.Kept.{one, length-only, coded-suc, coded-mono}
 use Rattle.trellis.proofs.Sent.{length-sent, lowest-inputs, coded0-state, coded1-state}
 use Rattle.trellis.proofs.States.{state-below}
+use Rattle.encoder.specs.Inner.{keptBy, RoomFor, Puts, Ready}
 
--- `out` is `front` over the front of `old` and no longer than it, and `at` is the place behind `front`
+-- `out` is `front` over the front of `old` and as long as it, and `at` is the place behind `front`
 pub record Fronted (front old out : List ℕ) (at : ℕ) : Type 0 where
   pub place : at ≡ length front
   pub list : out ≡ over front old
@@ -31,9 +34,6 @@ pub record Fronted (front old out : List ℕ) (at : ℕ) : Type 0 where
 
 pub fronted-none : (old : List ℕ) → Fronted [] old old 0
 fronted-none old = record { place = refl; list = over-none old; size = refl }
-
-pub fronted-as : (front same old out : List ℕ) (at : ℕ) → front ≡ same → Fronted front old out at → Fronted same old out at
-fronted-as front same old out at e f = rw e at f
 
 -- a piece written at the place behind the front
 pub piece-adds :
@@ -47,84 +47,151 @@ piece-adds front old out new piece at next f g h z =
       size = z ∙ f .size;
     }
 
--- one put: the bit v, which is w, is added where it is kept
-pub put-adds :
-    (front old out new : List ℕ) (at next : ℕ) (kept : Bool) (v w : ℕ) →
-    Fronted front old out at → v ≡ w → next ≡ at + length (onlyIf kept v) → new ≡ over (take at out ++ onlyIf kept v) out → length new ≡ length out →
-    Fronted (front ++ onlyIf kept w) old new next
-put-adds front old out new at next kept v w f e g h z =
-    piece-adds front old out new (onlyIf kept w) at next f (rw e at g) (rw e at h) z
+-- the same of a put
+put-adds :
+    {front old piece : List ℕ} {at next : ℕ} {put : Lent ℕ} →
+    Fronted front old (put .given) at → RoomFor piece at (put .given) → Puts piece at next put →
+    Fronted (front ++ piece) old (put .left) next
+put-adds {front} {old} {piece} {at} {next} {put} f room puts =
+    let new = take at (put .given) ++ piece in
+    let fits : length new ≤ length (put .given) =
+    simp length-append (omega (arith, length-take-le at (put .given) (omega arith))) in
+    piece-adds _ _ _ _ _ _ _ f (puts .place) (puts .output)
+    (ap length (puts .output) ∙ length-over new (put .given) fits)
 
--- step t, whose column is counted
+-- The invariant: after t of the steps, s is the state, column is t's, and what was sent stands over the front of out.
+pub record Encoded
+    (code : ConvCode) (keep : KeepPattern) (bits : List ℕ) (steps : ℕ) (old : List ℕ) (t s column at : ℕ) (out : List ℕ)
+    : Type 0 where
+  pub ready : Ready code keep steps old
+  pub turns : t ≤ steps
+  pub state : s ≡ stateAfter code (lowestBits bits) t
+  pub counted : column ≡ t % keep .period
+  pub front : Fronted (sentBy code (keepOf keep) (lowestBits bits) t) old out at
+
+pub encoded-starts :
+    {code : ConvCode} {keep : KeepPattern} {bits : List ℕ} {steps : ℕ} {old : List ℕ} →
+    Ready code keep steps old → Encoded code keep bits steps old 0 0 0 0 old
+unfolding stateAfter sentBy keptThrough
+encoded-starts {old = old} ready =
+    record {
+      ready = ready;
+      turns = omega arith;
+      state = refl;
+      counted = sym (mod-eq-of-lt (ready .rows .some));
+      front = fronted-none old;
+    }
+
 module _
-    (code : ConvCode) (m : KeepPattern) (rows : Rows m) (inputs : List ℕ) (t column : ℕ) (counted : column ≡ t % m .period) where
+    {code : ConvCode} {keep : KeepPattern} {bits : List ℕ} {steps : ℕ} {old : List ℕ} {t s column at : ℕ} {out : List ℕ}
+    (now : Encoded code keep bits steps old t s column at out) where
   abbrev p : Keep
-  p = keepOf m
+  p = keepOf keep
 
-  abbrev keeps : List ℕ → Bool
-  keeps row = eqb (getD row column 0) 1
+  abbrev inputs : List ℕ
+  inputs = lowestBits bits
 
-  keeps-first : keeps0 p t ≡ keeps (m .row0)
-  keeps-first = keeps0-column m rows t ∙ ap (λ (k : ℕ). eqb (getD (m .row0) k 0) 1) (sym counted)
+  abbrev sent : List ℕ
+  sent = sentBy code p inputs t
 
-  keeps-second : keeps1 p t ≡ keeps (m .row1)
-  keeps-second = keeps1-column m rows t ∙ ap (λ (k : ℕ). eqb (getD (m .row1) k 0) 1) (sym counted)
+  -- what the columns make of a coded bit
+  abbrev first : ℕ → List ℕ
+  first v = keptBy (getD (keep .row0) column 0) v
 
-  pub column-below : column < m .period
-  column-below = rw counted (mod-lt t (rows .some))
+  abbrev second : ℕ → List ℕ
+  second v = keptBy (getD (keep .row1) column 0) v
 
-  pub sent-suc :
-      (sentBy code p inputs t ++ onlyIf (keeps (m .row0)) (coded0 code inputs t)) ++ onlyIf (keeps (m .row1)) (coded1 code inputs t)
-      ≡ sentBy code p inputs (t + 1)
+  pub encoded-ends : steps ≤ t → out ≡ over (sentBy code p inputs steps) old
+  encoded-ends h =
+      let end : t ≡ steps = omega (arith, now .turns) in
+      rw end at (now .front .list)
+
+  pub column-below : column < keep .period
+  column-below = rw (now .counted) (mod-lt t (now .ready .rows .some))
+
+  keeps-first : keeps0 p t ≡ eqb (getD (keep .row0) column 0) 1
+  keeps-first = keeps0-column keep (now .ready .rows) t ∙ ap (λ (k : ℕ). eqb (getD (keep .row0) k 0) 1) (sym (now .counted))
+
+  keeps-second : keeps1 p t ≡ eqb (getD (keep .row1) column 0) 1
+  keeps-second = keeps1-column keep (now .ready .rows) t ∙ ap (λ (k : ℕ). eqb (getD (keep .row1) k 0) 1) (sym (now .counted))
+
+  sent-suc :
+      (sent ++ first (coded0 code inputs t)) ++ second (coded1 code inputs t) ≡ sentBy code p inputs (t + 1)
   unfolding sentBy keptThrough keptOf
   sent-suc =
       rw (add-one t, keeps-first, keeps-second)
-      (append-assoc (sentBy code p inputs t) (onlyIf (keeps (m .row0)) (coded0 code inputs t)) (onlyIf (keeps (m .row1)) (coded1 code inputs t)))
+      (append-assoc sent (first (coded0 code inputs t)) (second (coded1 code inputs t)))
 
   -- the step's bits fit where those of all steps do
-  module _ (steps room : ℕ) (h : t < steps) (all : codedLength p steps ≤ room) where
-    both-fit : codedLength p t + (one (keeps (m .row0)) + one (keeps (m .row1))) ≤ room
-    both-fit =
-        let good = rows-pattern m rows in
-        let next : codedLength p (suc t) ≡ codedLength p t + (one (keeps (m .row0)) + one (keeps (m .row1))) =
-        coded-suc p good t ∙ rw (keeps-first, keeps-second) in
-        omega (arith, next, coded-mono p good (suc t) steps h)
+  both-fit : t < steps → (u v : ℕ) → length sent + (length (first u) + length (second v)) ≤ length old
+  both-fit h u v =
+      let good = rows-pattern keep (now .ready .rows) in
+      let next = rw (keeps-first, keeps-second) at (coded-suc p good t) in
+      omega (
+        arith,
+        next,
+        coded-mono p good (suc t) steps h,
+        length-sent code p good inputs t,
+        length-only (eqb (getD (keep .row0) column 0) 1) u,
+        length-only (eqb (getD (keep .row1) column 0) 1) v,
+        now .ready .room,
+      )
 
-    pub first-fits : (at v : ℕ) → at ≡ length (sentBy code p inputs t) → at + length (onlyIf (keeps (m .row0)) v) ≤ room
-    first-fits at v e = omega (arith, both-fit, length-only (keeps (m .row0)) v, length-sent code p (rows-pattern m rows) inputs t)
+  pub first-fits : t < steps → (v : ℕ) → RoomFor (first v) at out
+  first-fits h v = omega (arith, both-fit h v v, now .front .place, now .front .size)
 
-    pub second-fits :
-        (at u v : ℕ) → at ≡ length (sentBy code p inputs t ++ onlyIf (keeps (m .row0)) u) → at + length (onlyIf (keeps (m .row1)) v) ≤ room
-    second-fits at u v e =
-        omega (
-          arith,
-          both-fit,
-          length-only (keeps (m .row0)) u,
-          length-only (keeps (m .row1)) v,
-          length-sent code p (rows-pattern m rows) inputs t,
-          length-append (sentBy code p inputs t) (onlyIf (keeps (m .row0)) u),
-        )
+  -- the input b of step t
+  module _ {b : ℕ} (input : b ≡ getD inputs t 0) where
+    pub taken-now : Taken code s b
+    taken-now =
+        record {
+          held = now .ready .narrow;
+          state = rw (now .state) (state-below code (now .ready .narrow .some) inputs (lowest-inputs bits) t);
+          bit = rw input (lowest-inputs bits t);
+        }
 
--- the state s and the input b of step t, for inputs that are the lowest bits of bytes
-module _
-    (code : ConvCode) (held : Narrow code) (bytes : List ℕ) (t s b : ℕ) (state : s ≡ stateAfter code (lowestBits bytes) t)
-    (input : b ≡ getD (lowestBits bytes) t 0) where
-  pub taken-now : Taken code s b
-  taken-now =
-      record {
-        held = held;
-        state = rw state (state-below code (held .some) (lowestBits bytes) (lowest-inputs bytes) t);
-        bit = rw input (lowest-inputs bytes t);
-      }
+    state-next : (next : ℕ) → next ≡ nextState code s b → next ≡ stateAfter code inputs (t + 1)
+    unfolding stateAfter
+    state-next next h = h ∙ rw (add-one t, now .state, input)
 
-  pub first-coded : (pair : Pair) → Branched code s b pair → pair .c0 ≡ coded0 code (lowestBits bytes) t
-  first-coded pair h =
-      h .first ∙ rw (state, input) (sym (coded0-state code (held .some) (lowestBits bytes) (lowest-inputs bytes) t))
+    -- the coded bits of the step
+    module _ {pair : Pair} (branched : Branched code s b pair) where
+      first-coded : pair .c0 ≡ coded0 code inputs t
+      first-coded =
+          branched .first
+          ∙ rw (now .state, input) (sym (coded0-state code (now .ready .narrow .some) inputs (lowest-inputs bits) t))
 
-  pub second-coded : (pair : Pair) → Branched code s b pair → pair .c1 ≡ coded1 code (lowestBits bytes) t
-  second-coded pair h =
-      h .second ∙ rw (state, input) (sym (coded1-state code (held .some) (lowestBits bytes) (lowest-inputs bytes) t))
+      second-coded : pair .c1 ≡ coded1 code inputs t
+      second-coded =
+          branched .second
+          ∙ rw (now .state, input) (sym (coded1-state code (now .ready .narrow .some) inputs (lowest-inputs bits) t))
 
-  pub state-next : (next : ℕ) → next ≡ nextState code s b → next ≡ stateAfter code (lowestBits bytes) (t + 1)
-  unfolding stateAfter
-  state-next next h = h ∙ rw (add-one t, state, input)
+      -- after the first put
+      module _
+          (h : t < steps) {middle : List ℕ} {behind : ℕ}
+          (puts : Puts (first (pair .c0)) at behind (record { given = out; left = middle })) where
+        first-put : Fronted (sent ++ first (pair .c0)) old middle behind
+        first-put = put-adds (now .front) (first-fits h (pair .c0)) puts
+
+        pub second-fits : (v : ℕ) → RoomFor (second v) behind middle
+        second-fits v =
+            omega (arith, both-fit h (pair .c0) v, first-put .place, first-put .size, length-append sent (first (pair .c0)))
+
+        -- after the second
+        pub encoded-goes-on :
+            {left : List ℕ} {next s' column' : ℕ} →
+            Puts (second (pair .c1)) behind next (record { given = middle; left = left }) →
+            s' ≡ nextState code s b → column' ≡ (column + 1) % keep .period →
+            Encoded code keep bits steps old (t + 1) s' column' next left
+        encoded-goes-on {left} {next} {s'} {column'} puts' state' counted' =
+            record {
+              ready = now .ready;
+              turns = omega arith;
+              state = state-next s' state';
+              counted = column-next (keep .period) t column column' (now .counted) counted';
+              front =
+                  rw sent-suc at
+                  (rw second-coded at
+                  (rw first-coded at
+                  (put-adds first-put (second-fits (pair .c1)) puts')));
+            }

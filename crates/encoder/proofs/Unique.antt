@@ -1,23 +1,23 @@
--- Of each entry, any two outcomes that its contract allows are equal. `Post` is the contract: of what the call is given, what it returns, and what it
--- leaves in each argument. Assumes nothing.
-use mathlib.Core.Path.{_≡_, sym, _∙_}
+-- Of each entry, any two outcomes that its contract allows are equal. `Post` is the contract as the prover reads it: of what
+-- the call is given, what it returns, and what it leaves in each argument. Assumes nothing.
 use Rattle.refusal.specs.declared.Counted.{Counted}
-use Rattle.refusal.proofs.Told.{count-told}
+use Rattle.refusal.specs.Answer.{Counts}
+use Rattle.refusal.proofs.Determined.{Once, OnceLeft, writes-once}
+use Rattle.refusal.proofs.Told.{counts-tell}
 use Rattle.encoder.proofs.punctured_coded_len_with.Reads as punctured-coded-len-with
 use Rattle.encoder.proofs.conv_encode_punctured_with.Reads as conv-encode-punctured-with
 use Rattle.encoder.proofs.conv_encode.Reads as conv-encode
 
-pub punctured-coded-len-determined :
-    (κs : _) (given : _) (r r' : Counted) (left left' : _) → punctured-coded-len-with.Post κs given r left → punctured-coded-len-with.Post κs given r' left' → r ≡ r'
-punctured-coded-len-determined κs given r r' left left' p q = count-told r r' (p ∙ sym q)
+pub measures-once :
+    (κs code info rate : _) →
+    Once (λ (r : Counted). punctured-coded-len-with.Post κs (code, (info, (rate, tt))) r (code, (info, (rate, tt))))
+measures-once κs code info rate = counts-tell _
 
-pub punctured-encode-determined :
-    (κs : _) (given : _) (r r' : Counted) (left left' : _) →
-    conv-encode-punctured-with.Post κs given r left → conv-encode-punctured-with.Post κs given r' left' →
-    (r ≡ r') × (left .1 .1 .1 .0 .now ≡ left' .1 .1 .1 .0 .now)
-punctured-encode-determined κs given r r' left left' p q = (count-told r r' (p .0 ∙ sym (q .0)), p .1 ∙ sym (q .1))
+pub encodes-once :
+    (κs code info rate out : _) →
+    OnceLeft (λ r left. conv-encode-punctured-with.Post κs (code, (info, (rate, (out, tt)))) r (code, (info, (rate, (left, tt)))))
+encodes-once κs code info rate out = writes-once Counts counts-tell _ _ _
 
-pub conv-encode-determined :
-    (κs : _) (given : _) (r r' : Counted) (left left' : _) → conv-encode.Post κs given r left → conv-encode.Post κs given r' left' →
-    (r ≡ r') × (left .1 .0 .now ≡ left' .1 .0 .now)
-conv-encode-determined κs given r r' left left' p q = (count-told r r' (p .0 ∙ sym (q .0)), p .1 ∙ sym (q .1))
+pub encodes-plain-once :
+    (κs bits out : _) → OnceLeft (λ r left. conv-encode.Post κs (bits, (out, tt)) r (bits, (left, tt)))
+encodes-plain-once κs bits out = writes-once Counts counts-tell _ _ _

@@ -14,11 +14,14 @@ use Rattle.trellis.specs.Keep.{codedLength}
 abbrev pub lengthOf : (code rate count : ℕ) → ℕ
 lengthOf code rate count = codedLength (patternOf rate) (stepsOf (codeOf code) count)
 
--- What every call with a code, a rate and an info count refuses, in this order, before it does what `rest` says; with the most info bits that it
--- takes.
+-- What every call with a code, a rate and an info count refuses, in this order, before it does what `rest` says; with
+-- the most info bits that it takes.
 abbrev pub checkedTo : {A : Type 0} → (limit code rate count : ℕ) → Said A → Said A
 checkedTo limit code rate count rest =
-    refuseWhen (not (knownCode code)) 1 (refuseWhen (not (knownRate rate)) 2 (refuseWhen (ltb limit count) 3 rest))
+    refuseWhen (not (knownCode code)) 1
+    (refuseWhen (not (knownRate rate)) 2
+    (refuseWhen (ltb limit count) 3
+    rest))
 
 abbrev pub checked : {A : Type 0} → (code rate count : ℕ) → Said A → Said A
 checked code rate count rest = checkedTo most code rate count rest

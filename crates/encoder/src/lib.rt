@@ -1,16 +1,14 @@
 // The encoders and the coded length: K5 or K7, with a zero tail and punctured, and plain K5.
-ghost use mathlib.Core.List.{_++_};
 ghost use mathlib.Core.Path.{_≡_};
-ghost use Prim.Native.Nat.{_+_, _^_, _≤_, _<_};
-ghost use lib.Dec.{eqb};
-ghost use lib.ListN.{length, getD, take};
-ghost use Rattle.refusal.specs.Answer.{countSaid};
-ghost use Rattle.refusal.specs.Lent.{over, leaves};
+ghost use Prim.Native.Nat.{_≤_};
+ghost use lib.ListN.{length, getD};
+ghost use Rattle.refusal.specs.Answer.{Counts};
+ghost use Rattle.refusal.specs.Lent.{lent};
 ghost use Rattle.trellis.specs.Choice.{codeOf, patternOf, keepOf};
-ghost use Rattle.trellis.specs.Codeword.{sentBy, lowestBits};
-ghost use Rattle.trellis.specs.Keep.{onlyIf, codedLength};
-ghost use Rattle.trellis.specs.Post.{Narrow, Rows};
-ghost use Rattle.encoder.specs.Encode.{lengthSaid, encodeSaid, encodeWord, plainSaid, plainWord};
+ghost use Rattle.trellis.specs.Codeword.{lowestBits};
+ghost use Rattle.trellis.specs.Keep.{codedLength};
+ghost use Rattle.encoder.specs.Promise.{Measures, Encodes, EncodesPlain};
+ghost use Rattle.encoder.specs.Inner.{keptBy, RoomFor, Puts, Ready, Sends};
 use refusal::Counted;
 use trellis::ConvCode;
 use trellis::KeepPattern;
@@ -27,9 +25,8 @@ fn input_at(bits: &[u8], t: usize) -> u32
 
 // Writes a coded bit at `at` if its column keeps it. Answers the place after it.
 fn put(column: u8, bit: u8, at: usize, out: &mut [u8]) -> usize
-    requires { ⌜ at + length (onlyIf (eqb column 1) bit) ≤ length (now out) ⌝ }
-    ensures place { λ r. ⌜ r ≡ at + length (onlyIf (eqb column 1) bit) ⌝ }
-    ensures output { λ r. ⌜ now (out .exit) ≡ over (take at (now (out .entry)) ++ onlyIf (eqb column 1) bit) (now (out .entry)) ⌝ }
+    requires { ⌜ RoomFor (keptBy column bit) at (now out) ⌝ }
+    ensures { λ r. ⌜ Puts (keptBy column bit) at r (lent out) ⌝ }
 {
     if column == 1 {
         out[at] = bit;
@@ -40,10 +37,8 @@ fn put(column: u8, bit: u8, at: usize, out: &mut [u8]) -> usize
 
 // The register from 0 on: writes what the steps send to the front of out.
 fn encode(code: ConvCode, keep: KeepPattern, bits: &[u8], steps: usize, out: &mut [u8])
-    requires { ⌜ Narrow code ⌝ }
-    requires { ⌜ Rows keep ⌝ }
-    requires { ⌜ codedLength (keepOf keep) steps ≤ length (now out) ⌝ }
-    ensures { λ _. ⌜ now (out .exit) ≡ over (sentBy code (keepOf keep) (lowestBits (now (bits .entry))) steps) (now (out .entry)) ⌝ }
+    requires { ⌜ Ready code keep steps (now out) ⌝ }
+    ensures { λ _. ⌜ Sends code (keepOf keep) steps (now (bits .entry)) (lent out) ⌝ }
 {
     let period = keep.period;
     let row0 = keep.row0;
@@ -66,7 +61,7 @@ fn encode(code: ConvCode, keep: KeepPattern, bits: &[u8], steps: usize, out: &mu
 // and for K5.
 fn encode_at(code: u8, rate: u8, bits: &[u8], steps: usize, out: &mut [u8])
     requires { ⌜ codedLength (patternOf rate) steps ≤ length (now out) ⌝ }
-    ensures { λ _. ⌜ now (out .exit) ≡ over (sentBy (codeOf code) (patternOf rate) (lowestBits (now (bits .entry))) steps) (now (out .entry)) ⌝ }
+    ensures { λ _. ⌜ Sends (codeOf code) (patternOf rate) steps (now (bits .entry)) (lent out) ⌝ }
 {
     if rate == 0 {
         if code == 0 {
@@ -93,7 +88,7 @@ fn encode_at(code: u8, rate: u8, bits: &[u8], steps: usize, out: &mut [u8])
 
 // How many coded bits an info count gives.
 pub fn punctured_coded_len_with(code: u8, info: usize, rate: u8) -> Counted
-    ensures { λ r. ⌜ countSaid r ≡ lengthSaid code rate info ⌝ }
+    ensures { λ r. ⌜ Measures (Counts r) code rate info ⌝ }
 {
     if trellis::CODES <= code {
         return refusal::no_count(1);
@@ -111,8 +106,7 @@ pub fn punctured_coded_len_with(code: u8, info: usize, rate: u8) -> Counted
 
 // The zero-tailed, punctured codeword of the info bits.
 pub fn conv_encode_punctured_with(code: u8, info: &[u8], rate: u8, out: &mut [u8]) -> Counted
-    ensures answer { λ r. ⌜ countSaid r ≡ encodeSaid code rate (length (now (info .entry))) (length (now (out .entry))) ⌝ }
-    ensures output { λ r. ⌜ now (out .exit) ≡ leaves (encodeSaid code rate (length (now (info .entry))) (length (now (out .entry)))) (encodeWord code rate (now (info .entry))) (now (out .entry)) ⌝ }
+    ensures { λ r. ⌜ Encodes (Counts r) code rate (now (info .entry)) (lent out) ⌝ }
 {
     let answer = punctured_coded_len_with(code, info.len(), rate);
     let Counted::Count(need) = answer else {
@@ -128,8 +122,7 @@ pub fn conv_encode_punctured_with(code: u8, info: &[u8], rate: u8, out: &mut [u8
 
 // The coded bits of K5 at rate 1/2 with no tail: two for each input.
 pub fn conv_encode(bits: &[u8], out: &mut [u8]) -> Counted
-    ensures answer { λ r. ⌜ countSaid r ≡ plainSaid (length (now (bits .entry))) (length (now (out .entry))) ⌝ }
-    ensures output { λ r. ⌜ now (out .exit) ≡ leaves (plainSaid (length (now (bits .entry))) (length (now (out .entry)))) (plainWord (now (bits .entry))) (now (out .entry)) ⌝ }
+    ensures { λ r. ⌜ EncodesPlain (Counts r) (now (bits .entry)) (lent out) ⌝ }
 {
     let count = bits.len();
     if refusal::MOST < count {

@@ -1,6 +1,5 @@
 -- The refusals in their order, which readings are used, and which score an accepted call has. Assumes nothing.
-use mathlib.Core.Bool.{Bool, not}
-use mathlib.Core.List.{List, _++_}
+use mathlib.Core.List.{List}
 use mathlib.Core.Path.{_≡_, refl, sym, ap, _∙_}
 use Prim.Native.Nat.{ℕ, _+_, _*_, _^_, _≤_, _<_}
 use native.Mathlib.Decide.{decLt}
@@ -8,25 +7,25 @@ use native.Mathlib.Omega.{arith}
 use borrow.Author.Tests.{lt-ltb, le-ltb}
 use lib.Dec.{ltb}
 use lib.Ieee.{Float}
-use lib.ListN.{length, take, drop}
+use lib.ListN.{length, take}
 use lib.Seq.{take-all, length-take-le}
 use Rattle.encoder.specs.Encode.{lengthOf}
+use Rattle.encoder.proofs.Checks as checks
 use Rattle.f32s.specs.Single.{finite}
-use Rattle.refusal.specs.Answer.{Said, accepted, refused, refuseWhen}
+use Rattle.refusal.specs.declared.Decoded.the-variants as decoded
+use Rattle.refusal.specs.Answer.{Said, accepted, refused, refuseWhen, Scores}
 use Rattle.refusal.specs.First.{firstBad}
-use Rattle.refusal.specs.Lent.{leaves}
+use Rattle.refusal.specs.Lent.{over, Lent, WritesBoth}
 use Rattle.refusal.specs.Limits.{most}
 use Rattle.refusal.proofs.FirstBad.{some-bad, none-bad, accepted-past-bad}
-use Rattle.refusal.proofs.Over.{accepted-leaves}
+use Rattle.refusal.proofs.Over.{both-accepted}
 use Rattle.refusal.proofs.Told.{accepted-told, accepted-past}
-use Rattle.trellis.specs.declared.ConvCode.{ConvCode}
-use Rattle.trellis.specs.Choice.{knownCode, knownRate, codeOf, patternOf}
+use Rattle.trellis.specs.Choice.{codes, codeOf, patterns, patternOf}
 use Rattle.trellis.specs.Codeword.{stepsOf}
-use Rattle.trellis.specs.Keep.{Keep}
-use Rattle.trellis.proofs.Chosen.{rate-pattern}
+use Rattle.trellis.proofs.Chosen.{code-narrow, rate-pattern}
 use Rattle.trellis.proofs.Kept.{coded-le}
 use Rattle.readings.specs.Decode.{word, score, filledRows}
-use Rattle.readings.specs.Post.{UsedOf}
+use Rattle.readings.specs.Post.{UsedOf, FindsAt}
 use Rattle.readings.specs.Said.{mostReadings, survivorsOf, examined, decodeSaid}
 use Rattle.readings.proofs.Counts.{length-word, length-filled}
 use Rattle.readings.proofs.Selected.{code-width}
@@ -38,14 +37,20 @@ length-few code rate info h =
     omega (arith, coded-le (patternOf rate) (rate-pattern rate) (stepsOf (codeOf code) info), code-width code)
 
 pub uses-all : (need count coded : ℕ) → coded ≡ need → need ≤ mostReadings → count < coded → UsedOf need count count
-uses-all need count coded e few h = record { short = λ g. refl; enough = λ g. absurd (omega (arith, e, h, g)); few = omega (arith, e, h, few) }
+uses-all need count coded e few h =
+    record { short = λ g. refl; enough = λ g. absurd (omega (arith, e, h, g)); few = omega (arith, e, h, few) }
 
 pub uses-needed : (need count coded : ℕ) → coded ≡ need → need ≤ mostReadings → coded ≤ count → UsedOf need count coded
-uses-needed need count coded e few h = record { short = λ g. absurd (omega (arith, e, h, g)); enough = λ g. e; few = omega (arith, e, few) }
+uses-needed need count coded e few h =
+    record { short = λ g. absurd (omega (arith, e, h, g)); enough = λ g. e; few = omega (arith, e, few) }
 
 module _ (need used : ℕ) (readings : List Float) (is : UsedOf need (length readings) used) where
   pub used-within : used ≤ length readings
-  used-within = elim (decLt (length readings) need) [ yes h ↦ omega (arith, is .short h) | no h ↦ omega (arith, is .enough (omega arith), h) ]
+  used-within =
+      elim (decLt (length readings) need) [
+        | yes h ↦ omega (arith, is .short h)
+        | no h ↦ omega (arith, is .enough (omega arith), h)
+      ]
 
   pub used-taken : take used readings ≡ take need readings
   used-taken =
@@ -65,7 +70,8 @@ module _ (code rate info : ℕ) (readings : List Float) (room scratch : ℕ) whe
 
   -- what is still tested once the tests before have passed
   abbrev readings-tested : Said Float
-  readings-tested = examined (take (lengthOf code rate info) readings) (accepted (score (codeOf code) (patternOf rate) readings info))
+  readings-tested =
+      examined (take (lengthOf code rate info) readings) (accepted (score (codeOf code) (patternOf rate) readings info))
 
   abbrev scratch-tested : Said Float
   scratch-tested = refuseWhen (ltb scratch (survivorsOf code info)) 5 readings-tested
@@ -73,48 +79,40 @@ module _ (code rate info : ℕ) (readings : List Float) (room scratch : ℕ) whe
   abbrev room-tested : Said Float
   room-tested = refuseWhen (ltb room info) 4 scratch-tested
 
-  abbrev count-tested : Said Float
-  count-tested = refuseWhen (ltb most info) 3 room-tested
-
-  abbrev rate-tested : Said Float
-  rate-tested = refuseWhen (not (knownRate rate)) 2 count-tested
-
-  pub no-code : 2 ≤ code → said ≡ refused 1 0
+  pub no-code : length codes ≤ code → said ≡ refused 1 0
   unfolding decodeSaid
-  no-code h = ap (λ (b : Bool). refuseWhen (not b) 1 rate-tested) (le-ltb code 2 h)
+  no-code h = checks.no-code code rate info room-tested h
 
-  module _ (a : code < 2) where
-    code-known : said ≡ rate-tested
+  module _ (a : code < length codes) where
+    pub no-rate : length patterns ≤ rate → said ≡ refused 2 0
     unfolding decodeSaid
-    code-known = ap (λ (b : Bool). refuseWhen (not b) 1 rate-tested) (lt-ltb code 2 a)
+    no-rate h = checks.no-rate code rate info room-tested a h
 
-    pub no-rate : 5 ≤ rate → said ≡ refused 2 0
-    no-rate h = code-known ∙ ap (λ (b : Bool). refuseWhen (not b) 2 count-tested) (le-ltb rate 5 h)
+    module _ (b : rate < length patterns) where
+      pub too-many : most < info → said ≡ refused 3 0
+      unfolding decodeSaid
+      too-many h = checks.too-many code rate info room-tested a b h
 
-    module _ (b : rate < 5) where
-      rate-known : said ≡ count-tested
-      rate-known = code-known ∙ ap (λ (b : Bool). refuseWhen (not b) 2 count-tested) (lt-ltb rate 5 b)
-
-      pub too-many : 4096 < info → said ≡ refused 3 0
-      too-many h = rate-known ∙ ap (λ (b : Bool). refuseWhen b 3 room-tested) (lt-ltb most info h)
-
-      module _ (c : info ≤ 4096) where
-        not-too-many : said ≡ room-tested
-        not-too-many = rate-known ∙ ap (λ (b : Bool). refuseWhen b 3 room-tested) (le-ltb most info c)
+      module _ (c : info ≤ most) where
+        few-enough : said ≡ room-tested
+        unfolding decodeSaid
+        few-enough = checks.passes code rate info room-tested a b c
 
         pub no-room : room < info → said ≡ refused 4 0
-        no-room h = not-too-many ∙ ap (λ (b : Bool). refuseWhen b 4 scratch-tested) (lt-ltb room info h)
+        no-room h = few-enough ∙ rw (lt-ltb room info h)
 
         module _ (d : info ≤ room) where
           room-enough : said ≡ scratch-tested
-          room-enough = not-too-many ∙ ap (λ (b : Bool). refuseWhen b 4 scratch-tested) (le-ltb room info d)
+          room-enough = few-enough ∙ rw (le-ltb room info d)
 
           pub no-scratch : scratch < survivorsOf code info → said ≡ refused 5 0
-          no-scratch h = room-enough ∙ ap (λ (b : Bool). refuseWhen b 5 readings-tested) (lt-ltb scratch (survivorsOf code info) h)
+          no-scratch h = room-enough ∙ rw (lt-ltb scratch (survivorsOf code info) h)
 
-          module _ (e : survivorsOf code info ≤ scratch) (used bad : ℕ) (is : UsedOf (lengthOf code rate info) (length readings) used) (of-bad : bad ≡ firstBad finite (take used readings)) where
+          module _
+              (e : survivorsOf code info ≤ scratch) {used bad : ℕ} (is : UsedOf (lengthOf code rate info) (length readings) used)
+              (of-bad : bad ≡ firstBad finite (take used readings)) where
             scratch-enough : said ≡ readings-tested
-            scratch-enough = room-enough ∙ ap (λ (b : Bool). refuseWhen b 5 readings-tested) (le-ltb scratch (survivorsOf code info) e)
+            scratch-enough = room-enough ∙ rw (le-ltb scratch (survivorsOf code info) e)
 
             counted : length (take (lengthOf code rate info) readings) ≡ used
             counted = used-counted (lengthOf code rate info) used readings is
@@ -123,32 +121,36 @@ module _ (code rate info : ℕ) (readings : List Float) (room scratch : ℕ) whe
             found = of-bad ∙ ap (firstBad finite) (used-taken (lengthOf code rate info) used readings is)
 
             pub bad-reading : bad < used → said ≡ refused 6 bad
-            bad-reading h = scratch-enough ∙ some-bad finite 6 (take (lengthOf code rate info) readings) _ bad found (omega (arith, counted))
+            bad-reading h =
+                scratch-enough
+                ∙ some-bad finite 6 (take (lengthOf code rate info) readings) _ bad found (omega (arith, counted))
 
             pub good-readings : used ≤ bad → said ≡ accepted (score (codeOf code) (patternOf rate) readings info)
-            good-readings h = scratch-enough ∙ none-bad finite 6 (take (lengthOf code rate info) readings) _ bad found (omega (arith, counted))
+            good-readings h =
+                scratch-enough
+                ∙ none-bad finite 6 (take (lengthOf code rate info) readings) _ bad found (omega (arith, counted))
 
   -- ---- what is accepted
 
   pub accepted-score : (s : Float) → said ≡ accepted s → s ≡ score (codeOf code) (patternOf rate) readings info
   unfolding decodeSaid
   accepted-score s e =
-      let known-code : rate-tested ≡ accepted s = accepted-past (not (knownCode code)) 1 rate-tested s e in
-      let known-rate : count-tested ≡ accepted s = accepted-past (not (knownRate rate)) 2 count-tested s known-code in
-      let few : room-tested ≡ accepted s = accepted-past (ltb most info) 3 room-tested s known-rate in
+      let few : room-tested ≡ accepted s = checks.checked-past code rate info room-tested s e in
       let fits : scratch-tested ≡ accepted s = accepted-past (ltb room info) 4 scratch-tested s few in
       let rows-fit : readings-tested ≡ accepted s = accepted-past (ltb scratch (survivorsOf code info)) 5 readings-tested s fits in
       sym (accepted-told _ s (accepted-past-bad finite 6 (take (lengthOf code rate info) readings) _ s rows-fit))
 
--- ---- what is left
+-- ---- what a decoding leaves is what it promises
 
-module _ (said : Said Float) (score : Float) (accepts : said ≡ accepted score) (code : ConvCode) (p : Keep) (readings : List Float) (info : ℕ) where
-  pub leaves-word : (new old : List ℕ) → new ≡ word code p readings info ++ drop info old → new ≡ leaves said (word code p readings info) old
-  leaves-word = accepted-leaves said score accepts (word code p readings info) info (length-word code p readings info)
-
-  pub leaves-rows :
-      0 < code .width → (new old : List ℕ) → new ≡ filledRows code p readings (stepsOf code info) ++ drop (stepsOf code info * 2 ^ code .width) old →
-      new ≡ leaves said (filledRows code p readings (stepsOf code info)) old
-  leaves-rows some =
-      accepted-leaves said score accepts (filledRows code p readings (stepsOf code info)) (stepsOf code info * 2 ^ code .width)
-      (length-filled code some p readings (stepsOf code info))
+pub finds-decodes :
+    (code rate info : ℕ) (readings : List Float) {r : Float} {out scratch : Lent ℕ} {said : Said Float} →
+    said ≡ accepted (score (codeOf code) (patternOf rate) readings info) → FindsAt code rate info readings r out scratch →
+    WritesBoth (Scores (decoded.Word r)) said (word (codeOf code) (patternOf rate) readings info) out
+    (filledRows (codeOf code) (patternOf rate) readings (stepsOf (codeOf code) info)) scratch
+unfolding over
+finds-decodes code rate info readings {r} {out} {scratch} accepts finds =
+    let chosen = codeOf code in
+    let p = patternOf rate in
+    both-accepted accepts (ap accepted (finds .scored))
+    (finds .output ∙ rw (length-word chosen p readings info))
+    (finds .survivors ∙ rw (length-filled chosen (code-narrow code .some) p readings (stepsOf chosen info)))

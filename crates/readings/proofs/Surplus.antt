@@ -17,9 +17,9 @@ use Rattle.best_path.specs.Run.{stepFrom, metsAfter, survivors}
 use Rattle.best_path.proofs.Simulation.{traced-same}
 use Rattle.encoder.specs.Encode.{lengthOf}
 use Rattle.f32s.specs.Single.{zero32}
-use Rattle.refusal.specs.Answer.{refused, refuseWhen}
+use Rattle.refusal.specs.Answer.{Said, refused, refuseWhen}
 use Rattle.refusal.specs.Limits.{most}
-use Rattle.refusal.specs.Lent.{leaves}
+use Rattle.refusal.specs.Lent.{leaves, Lent}
 use Rattle.trellis.specs.declared.ConvCode.{ConvCode}
 use Rattle.trellis.specs.Choice.{knownCode, codeOf, knownRate, patternOf}
 use Rattle.trellis.specs.Codeword.{stepsOf}
@@ -30,6 +30,7 @@ use Rattle.readings.specs.Places.{filled, place0, place1}
 use Rattle.branches.specs.Largest.{mark, largest}
 use Rattle.readings.specs.Sums.{gain}
 use Rattle.readings.specs.Decode.{mets, froms, word, score, filledRows}
+use Rattle.readings.specs.Promise.{Decodes}
 use Rattle.readings.specs.Said.{mostReadings, decodeSaid}
 use Rattle.readings.proofs.Answers.{length-few}
 
@@ -160,24 +161,17 @@ module _
       ap (take count) front ∙ take-at _ (drop count room-for-all) count (sym counted)
       ∙ ap (λ (n : ℕ). take n all) (length-replicate mostReadings zero32)
 
-  module _ (code rate info room scratch : ℕ) where
-    pub front-said : decodeSaid code rate info (take count values) room scratch ≡ decodeSaid code rate info all room scratch
-    front-said =
-        ap (λ (l : List Float). decodeSaid code rate info l room scratch) front-taken
-        ∙ surplus-said code rate info all room scratch mostReadings (le-refl mostReadings)
-
-    pub front-output :
-        (old : List ℕ) →
-        leaves (decodeSaid code rate info (take count values) room scratch) (word (codeOf code) (patternOf rate) (take count values) info) old
-        ≡ leaves (decodeSaid code rate info all room scratch) (word (codeOf code) (patternOf rate) all info) old
-    front-output old =
-        ap (λ (l : List Float). leaves (decodeSaid code rate info l room scratch) (word (codeOf code) (patternOf rate) l info) old) front-taken
-        ∙ surplus-output code rate info all room scratch mostReadings (le-refl mostReadings) old
-
-    pub front-scratch :
-        (old : List ℕ) →
-        leaves (decodeSaid code rate info (take count values) room scratch) (filledRows (codeOf code) (patternOf rate) (take count values) (stepsOf (codeOf code) info)) old
-        ≡ leaves (decodeSaid code rate info all room scratch) (filledRows (codeOf code) (patternOf rate) all (stepsOf (codeOf code) info)) old
-    front-scratch old =
-        ap (λ (l : List Float). leaves (decodeSaid code rate info l room scratch) (filledRows (codeOf code) (patternOf rate) l (stepsOf (codeOf code) info)) old) front-taken
-        ∙ surplus-scratch code rate info all room scratch mostReadings (le-refl mostReadings) old
+  -- so what is promised of the front is promised of all of them
+  pub front-decodes :
+      (code rate info : ℕ) {Answers : Said Float → Type 0} {out scratch : Lent ℕ} →
+      Decodes Answers code rate info (take count values) out scratch → Decodes Answers code rate info all out scratch
+  front-decodes code rate info {Answers} {out} {scratch} promised =
+      let room = length (out .given) in
+      let work = length (scratch .given) in
+      let enough = le-refl mostReadings in
+      let taken = rw front-taken at promised in
+      record {
+        answer = rw (surplus-said code rate info all room work mostReadings enough) at (taken .answer);
+        output = taken .output ∙ surplus-output code rate info all room work mostReadings enough (out .given);
+        scratch = taken .scratch ∙ surplus-scratch code rate info all room work mostReadings enough (scratch .given);
+      }

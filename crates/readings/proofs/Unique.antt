@@ -1,15 +1,21 @@
--- Of each entry, any two outcomes that its contract allows are equal. `Post` is the contract: of what the call is given, what it returns, and what it
--- leaves in each argument. Assumes nothing.
-use mathlib.Core.Path.{_≡_, sym, _∙_}
-use Rattle.refusal.specs.declared.Decoded.{Decoded}
-use Rattle.refusal.proofs.Told.{word-told}
+-- Of each entry, any two outcomes that its contract allows are equal. `Post` is the contract as the prover reads it: of what
+-- the call is given, what it returns, and what it leaves in each argument. Assumes nothing.
+use Rattle.refusal.specs.Answer.{Scores}
+use Rattle.refusal.proofs.Determined.{OnceBoth, both-once}
+use Rattle.refusal.proofs.Told.{scores-tell}
 use Rattle.readings.proofs.viterbi_decode_soft_with.Reads as viterbi-decode-soft-with
 use Rattle.readings.proofs.viterbi_decode_bytes.Reads as viterbi-decode-bytes
 
-pub viterbi-decode-soft-determined :
-    (κs : _) (given : _) (r r' : Decoded) (left left' : _) → viterbi-decode-soft-with.Post κs given r left → viterbi-decode-soft-with.Post κs given r' left' → (r ≡ r') × (left .1 .1 .1 .1 .0 .now ≡ left' .1 .1 .1 .1 .0 .now) × (left .1 .1 .1 .1 .1 .0 .now ≡ left' .1 .1 .1 .1 .1 .0 .now)
-viterbi-decode-soft-determined κs given r r' left left' p q = (word-told r r' (p .0 ∙ sym (q .0)), p .1 .0 ∙ sym (q .1 .0), p .1 .1 ∙ sym (q .1 .1))
+pub decodes-once :
+    (κs code readings info rate out scratch : _) →
+    OnceBoth (λ r left work.
+    viterbi-decode-soft-with.Post κs (code, (readings, (info, (rate, (out, (scratch, tt)))))) r
+    (code, (readings, (info, (rate, (left, (work, tt)))))))
+decodes-once κs code readings info rate out scratch = both-once Scores scores-tell _ _ _ _ _
 
-pub viterbi-decode-bytes-determined :
-    (κs : _) (given : _) (r r' : Decoded) (left left' : _) → viterbi-decode-bytes.Post κs given r left → viterbi-decode-bytes.Post κs given r' left' → (r ≡ r') × (left .1 .1 .1 .1 .0 .now ≡ left' .1 .1 .1 .1 .0 .now) × (left .1 .1 .1 .1 .1 .0 .now ≡ left' .1 .1 .1 .1 .1 .0 .now)
-viterbi-decode-bytes-determined κs given r r' left left' p q = (word-told r r' (p .0 ∙ sym (q .0)), p .1 .0 ∙ sym (q .1 .0), p .1 .1 ∙ sym (q .1 .1))
+pub decodes-bytes-once :
+    (κs code bytes info rate out scratch : _) →
+    OnceBoth (λ r left work.
+    viterbi-decode-bytes.Post κs (code, (bytes, (info, (rate, (out, (scratch, tt)))))) r
+    (code, (bytes, (info, (rate, (left, (work, tt)))))))
+decodes-bytes-once κs code bytes info rate out scratch = both-once Scores scores-tell _ _ _ _ _

@@ -1,12 +1,20 @@
 -- What the functions on one step ask and ensure, part by part. Definitions only.
-use mathlib.Core.List.{List, map}
+use mathlib.Core.List.{List, _++_, map}
 use mathlib.Core.Path.{_≡_}
-use Prim.Native.Nat.{ℕ, _+_, _≤_, _<_}
+use Prim.Native.Nat.{ℕ, _+_, _*_, _^_, _≤_, _<_}
 use lib.Ieee.{Float, nan}
-use lib.ListN.{getD}
+use lib.ListN.{length, getD, drop}
 use Rattle.best_path.specs.Step.{Cell, step}
+use Rattle.refusal.specs.Lent.{Lent}
+use Rattle.refusal.specs.Limits.{most}
 use Rattle.trellis.specs.declared.ConvCode.{ConvCode}
+use Rattle.trellis.specs.declared.KeepPattern.{KeepPattern}
+use Rattle.trellis.specs.Choice.{codeOf, patternOf}
+use Rattle.trellis.specs.Codeword.{stepsOf}
+use Rattle.trellis.specs.Keep.{Keep}
+use Rattle.trellis.specs.Post.{Rows, Halved}
 use Rattle.branches.specs.Largest.{largest}
+use Rattle.readings.specs.Decode.{word, score, filledRows}
 use Rattle.readings.specs.Sums.{brings}
 
 -- a step that reads a and b, from the metrics as the code holds them
@@ -24,3 +32,26 @@ pub record UsedOf (need count used : ℕ) : Type 0 where
   pub short : count < need → used ≡ count
   pub enough : need ≤ count → used ≡ need
   pub few : used ≤ 65536
+
+-- `decode`: a code and a keep pattern as the code holds them, and room for the word and the survivors
+pub record Decodable (code : ConvCode) (half : ℕ) (keep : KeepPattern) (info : ℕ) (out scratch : List ℕ) : Type 0 where
+  pub shape : Halved code half
+  pub pattern : Rows keep
+  pub few : info ≤ most
+  pub room : info ≤ length out
+  pub rows : stepsOf code info * (2 * half) ≤ length scratch
+
+-- `decode`: the score r, the word over the front of `out`, and the survivors of `states` states over that of `scratch`
+pub record Finds
+    (code : ConvCode) (p : Keep) (states info : ℕ) (readings : List Float) (r : Float) (out scratch : Lent ℕ)
+    : Type 0 where
+  pub scored : r ≡ score code p readings info
+  pub output : out .left ≡ word code p readings info ++ drop info (out .given)
+  pub survivors :
+      scratch .left
+      ≡ filledRows code p readings (stepsOf code info) ++ drop (stepsOf code info * states) (scratch .given)
+
+-- `decode_at`: the same for the code and the keep pattern of their numbers
+abbrev pub FindsAt : (code rate info : ℕ) → List Float → Float → (out scratch : Lent ℕ) → Type 0
+FindsAt code rate info readings r out scratch =
+    Finds (codeOf code) (patternOf rate) (2 ^ codeOf code .width) info readings r out scratch

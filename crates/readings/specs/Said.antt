@@ -8,13 +8,14 @@ use Rattle.encoder.specs.Encode.{lengthOf, checked}
 use Rattle.f32s.specs.Single.{finite}
 use Rattle.refusal.specs.Answer.{Said, accepted, refuseWhen}
 use Rattle.refusal.specs.First.{firstBad, refuseAtBad}
-use Rattle.trellis.specs.Choice.{codeOf, patternOf}
+use Rattle.refusal.specs.Limits.{most}
+use Rattle.trellis.specs.Choice.{k7, codeOf, patternOf}
 use Rattle.trellis.specs.Codeword.{stepsOf}
 use Rattle.readings.specs.Decode.{score}
 
--- the most readings that a decoding uses: two for each of the 4,096 + 6 steps
+-- the most readings that a decoding uses: two for each step of the longest word in the wider code
 abbrev pub mostReadings : ℕ
-mostReadings = 8204
+mostReadings = 2 * stepsOf k7 most
 
 -- how many survivors there are: steps × states
 abbrev pub survivorsOf : (code info : ℕ) → ℕ
@@ -31,4 +32,5 @@ decodeSaid code rate info readings room scratch =
     checked code rate info
     (refuseWhen (ltb room info) 4
     (refuseWhen (ltb scratch (survivorsOf code info)) 5
-    (examined (take (lengthOf code rate info) readings) (accepted (score (codeOf code) (patternOf rate) readings info)))))
+    (examined (take (lengthOf code rate info) readings)
+    (accepted (score (codeOf code) (patternOf rate) readings info)))))

@@ -1,18 +1,16 @@
 // The block decoder of readings: what it refuses, and which code and keep pattern it runs.
-ghost use mathlib.Core.List.{_++_};
 ghost use mathlib.Core.Path.{_≡_};
 ghost use Prim.Native.Nat.{_-_, _*_, _^_, _≤_};
-ghost use lib.ListN.{length, drop};
+ghost use lib.ListN.{length};
 ghost use Rattle.encoder.specs.Encode.{lengthOf};
-ghost use Rattle.f32s.specs.Single.{allOfBytes};
-ghost use Rattle.refusal.specs.Answer.{wordSaid, refused};
-ghost use Rattle.refusal.specs.Lent.{leaves};
-ghost use Rattle.trellis.specs.Choice.{codeOf, patternOf, keepOf};
-ghost use Rattle.trellis.specs.Codeword.{stepsOf};
-ghost use Rattle.trellis.specs.Post.{Narrow, Rows, Halved};
-ghost use Rattle.readings.specs.Decode.{word, score, filledRows};
-ghost use Rattle.readings.specs.Post.{UsedOf};
-ghost use Rattle.readings.specs.Said.{survivorsOf, decodeSaid};
+ghost use Rattle.refusal.specs.Answer.{Scores, wordSaid, refused};
+ghost use Rattle.refusal.specs.Lent.{lent};
+ghost use Rattle.refusal.specs.Limits.{most};
+ghost use Rattle.trellis.specs.Choice.{keepOf};
+ghost use Rattle.trellis.specs.Post.{Narrow};
+ghost use Rattle.readings.specs.Post.{UsedOf, Decodable, Finds, FindsAt};
+ghost use Rattle.readings.specs.Promise.{Decodes, DecodesBytes};
+ghost use Rattle.readings.specs.Said.{survivorsOf};
 
 mod forward_pass;
 
@@ -33,14 +31,8 @@ fn decode(
     out: &mut [u8],
     scratch: &mut [u8],
 ) -> f32
-    requires shape { ⌜ Halved code half ⌝ }
-    requires pattern { ⌜ Rows keep ⌝ }
-    requires short { ⌜ info ≤ 4096 ⌝ }
-    requires room { ⌜ info ≤ length (now out) ⌝ }
-    requires rows { ⌜ stepsOf code info * (2 * half) ≤ length (now scratch) ⌝ }
-    ensures score { λ r. ⌜ r ≡ score code (keepOf keep) (now (readings .entry)) info ⌝ }
-    ensures output { λ _. ⌜ now (out .exit) ≡ word code (keepOf keep) (now (readings .entry)) info ++ drop info (now (out .entry)) ⌝ }
-    ensures survivors { λ _. ⌜ now (scratch .exit) ≡ filledRows code (keepOf keep) (now (readings .entry)) (stepsOf code info) ++ drop (stepsOf code info * (2 * half)) (now (scratch .entry)) ⌝ }
+    requires { ⌜ Decodable code half keep info (now out) (now scratch) ⌝ }
+    ensures { λ r. ⌜ Finds code (keepOf keep) (2 * half) info (now (readings .entry)) r (lent out) (lent scratch) ⌝ }
 {
     let steps = info + code.width;
     let score = forward(code, half, keep, readings, steps, scratch);
@@ -66,12 +58,10 @@ fn decode_at(
     out: &mut [u8],
     scratch: &mut [u8],
 ) -> f32
-    requires short { ⌜ info ≤ 4096 ⌝ }
+    requires few { ⌜ info ≤ most ⌝ }
     requires room { ⌜ info ≤ length (now out) ⌝ }
     requires rows { ⌜ survivorsOf code info ≤ length (now scratch) ⌝ }
-    ensures score { λ r. ⌜ r ≡ score (codeOf code) (patternOf rate) (now (readings .entry)) info ⌝ }
-    ensures output { λ _. ⌜ now (out .exit) ≡ word (codeOf code) (patternOf rate) (now (readings .entry)) info ++ drop info (now (out .entry)) ⌝ }
-    ensures survivors { λ _. ⌜ now (scratch .exit) ≡ filledRows (codeOf code) (patternOf rate) (now (readings .entry)) (stepsOf (codeOf code) info) ++ drop (survivorsOf code info) (now (scratch .entry)) ⌝ }
+    ensures { λ r. ⌜ FindsAt code rate info (now (readings .entry)) r (lent out) (lent scratch) ⌝ }
 {
     let chosen = trellis::conv_code(code);
     let keep = trellis::matrix(rate);
@@ -94,9 +84,7 @@ pub fn viterbi_decode_soft_with(
     out: &mut [u8],
     scratch: &mut [u8],
 ) -> Decoded
-    ensures answer { λ r. ⌜ wordSaid r ≡ decodeSaid code rate info (now (readings .entry)) (length (now (out .entry))) (length (now (scratch .entry))) ⌝ }
-    ensures output { λ r. ⌜ now (out .exit) ≡ leaves (decodeSaid code rate info (now (readings .entry)) (length (now (out .entry))) (length (now (scratch .entry)))) (word (codeOf code) (patternOf rate) (now (readings .entry)) info) (now (out .entry)) ⌝ }
-    ensures survivors { λ r. ⌜ now (scratch .exit) ≡ leaves (decodeSaid code rate info (now (readings .entry)) (length (now (out .entry))) (length (now (scratch .entry)))) (filledRows (codeOf code) (patternOf rate) (now (readings .entry)) (stepsOf (codeOf code) info)) (now (scratch .entry)) ⌝ }
+    ensures { λ r. ⌜ Decodes (Scores r) code rate info (now (readings .entry)) (lent out) (lent scratch) ⌝ }
 {
     if trellis::CODES <= code {
         return no_word(1, 0);
@@ -122,8 +110,8 @@ pub fn viterbi_decode_soft_with(
     Decoded::Word(score)
 }
 
-// The most readings that a decoding uses: two for each of the 4,096 + 6 steps.
-pub const MOST_READINGS: usize = 8204;
+// The most readings that a decoding uses: two for each step, and 6 steps more than info bits.
+pub const MOST_READINGS: usize = 2 * (refusal::MOST + 6);
 
 // The same of readings as four bytes each, low first; a last piece under four bytes is surplus.
 pub fn viterbi_decode_bytes(
@@ -134,9 +122,7 @@ pub fn viterbi_decode_bytes(
     out: &mut [u8],
     scratch: &mut [u8],
 ) -> Decoded
-    ensures answer { λ r. ⌜ wordSaid r ≡ decodeSaid code rate info (allOfBytes (now (bytes .entry))) (length (now (out .entry))) (length (now (scratch .entry))) ⌝ }
-    ensures output { λ r. ⌜ now (out .exit) ≡ leaves (decodeSaid code rate info (allOfBytes (now (bytes .entry))) (length (now (out .entry))) (length (now (scratch .entry)))) (word (codeOf code) (patternOf rate) (allOfBytes (now (bytes .entry))) info) (now (out .entry)) ⌝ }
-    ensures survivors { λ r. ⌜ now (scratch .exit) ≡ leaves (decodeSaid code rate info (allOfBytes (now (bytes .entry))) (length (now (out .entry))) (length (now (scratch .entry)))) (filledRows (codeOf code) (patternOf rate) (allOfBytes (now (bytes .entry))) (stepsOf (codeOf code) info)) (now (scratch .entry)) ⌝ }
+    ensures { λ r. ⌜ DecodesBytes (Scores r) code rate info (now (bytes .entry)) (lent out) (lent scratch) ⌝ }
 {
     let mut values = [0.0; MOST_READINGS];
     let count = f32s::from_all_bytes(bytes, &mut values[..]);
@@ -145,7 +131,7 @@ pub fn viterbi_decode_bytes(
 
 // How many survivors there are: steps times states.
 fn survivors_of(code: u8, info: usize) -> usize
-    requires { ⌜ info ≤ 4096 ⌝ }
+    requires { ⌜ info ≤ most ⌝ }
     ensures { λ r. ⌜ r ≡ survivorsOf code info ⌝ }
 {
     let chosen = trellis::conv_code(code);
@@ -156,7 +142,7 @@ fn survivors_of(code: u8, info: usize) -> usize
 
 // How many readings are used, of those that there are.
 fn used_of(code: u8, rate: u8, info: usize, count: usize) -> usize
-    requires { ⌜ info ≤ 4096 ⌝ }
+    requires { ⌜ info ≤ most ⌝ }
     ensures { λ r. ⌜ UsedOf (lengthOf code rate info) count r ⌝ }
 {
     let chosen = trellis::conv_code(code);

@@ -1,4 +1,5 @@
--- The index of the first bad value of a list, found by looking at one after the other; it is the place of refusals 6 and 7. Over any test. Assumes nothing.
+-- The index of the first bad value of a list, found by looking at one after the other; it is the place of refusals 6 and 7.
+-- Over any test. Assumes nothing.
 use mathlib.Core.Bool.{Bool, true, false, cond, not}
 use mathlib.Core.List.{List, [], _∷_}
 use mathlib.Core.Path.{_≡_, refl, ap, sym, subst, _∙_}
@@ -18,37 +19,42 @@ next-is zero (x ∷ xs) h = refl
 next-is (suc i) (x ∷ xs) h = next-is i xs (omega arith)
 
 module _ (is-good : Float → Bool) where
-  -- i places on, with those before it good
-  unfoldable pub badFrom : ℕ → List Float → ℕ
-  badFrom i xs = i + firstBad is-good (drop i xs)
+  -- The invariant of a search: the first i values are good, so the first bad one is the first from there on.
+  pub record Sought (xs : List Float) (i : ℕ) : Type 0 where
+    pub reached : i ≤ length xs
+    pub ahead : firstBad is-good xs ≡ i + firstBad is-good (drop i xs)
 
-  pub bad-from-start : (xs : List Float) → firstBad is-good xs ≡ badFrom 0 xs
-  unfolding badFrom
-  bad-from-start xs = omega arith
+  pub sought-starts : {xs : List Float} → Sought xs 0
+  sought-starts = record { reached = omega arith; ahead = omega arith }
 
-  module _ (i : ℕ) (xs : List Float) (h : i < length xs) where
-    look : (good : Bool) → good ≡ is-good (getD xs i nan) → firstBad is-good (drop i xs) ≡ cond good (suc (firstBad is-good (drop (suc i) xs))) 0
+  module _ {xs : List Float} {i : ℕ} (sought : Sought xs i) where
+    -- the search is through
+    pub none-found : length xs ≤ i → length xs ≡ firstBad is-good xs
     unfolding firstBad
-    look good e = ap (firstBad is-good) (next-is i xs h) ∙ ap (λ (b : Bool). cond b (suc (firstBad is-good (drop (suc i) xs))) 0) (sym e)
+    none-found past =
+        let nothing : firstBad is-good (drop i xs) ≡ 0 = ap (firstBad is-good) (drop-of-length-le xs past) in
+        omega (arith, nothing, sought .reached, sought .ahead)
 
-    pub bad-here : (good : Bool) → good ≡ is-good (getD xs i nan) → not good ≡ true → badFrom i xs ≡ i
-    unfolding badFrom
-    bad-here true e bad = absurd (subst T (sym bad) tt)
-    bad-here false e bad = omega (arith, look false e)
+    -- the value at i is looked at
+    module _ (h : i < length xs) where
+      look :
+          (good : Bool) → good ≡ is-good (getD xs i nan) →
+          firstBad is-good (drop i xs) ≡ cond good (suc (firstBad is-good (drop (suc i) xs))) 0
+      unfolding firstBad
+      look good e =
+          ap (firstBad is-good) (next-is i xs h)
+          ∙ ap (λ (b : Bool). cond b (suc (firstBad is-good (drop (suc i) xs))) 0) (sym e)
 
-    pub bad-later : (good : Bool) → good ≡ is-good (getD xs i nan) → not good ≡ false → badFrom i xs ≡ badFrom (i + 1) xs
-    unfolding badFrom
-    bad-later true e fine =
-        let next : suc i ≡ i + 1 = omega arith in
-        let one : i + firstBad is-good (drop i xs) ≡ suc i + firstBad is-good (drop (suc i) xs) = omega (arith, look true e) in
-        one ∙ ap (λ (j : ℕ). j + firstBad is-good (drop j xs)) next
-    bad-later false e fine = absurd (subst T fine tt)
+      pub found-here : {good : Bool} → good ≡ is-good (getD xs i nan) → not good ≡ true → i ≡ firstBad is-good xs
+      found-here {good = true} e bad = absurd (subst T (sym bad) tt)
+      found-here {good = false} e bad = omega (arith, look false e, sought .ahead)
 
-  pub bad-past : (i : ℕ) (xs : List Float) → i ≤ length xs → length xs ≤ i → badFrom i xs ≡ length xs
-  unfolding badFrom firstBad
-  bad-past i xs h k =
-      let nothing : firstBad is-good (drop i xs) ≡ 0 = ap (firstBad is-good) (drop-of-length-le xs k) in
-      omega (arith, nothing)
+      pub sought-goes-on : {good : Bool} → good ≡ is-good (getD xs i nan) → not good ≡ false → Sought xs (i + 1)
+      sought-goes-on {good = true} e fine =
+          let next : suc i ≡ i + 1 = omega arith in
+          let one : firstBad is-good xs ≡ suc i + firstBad is-good (drop (suc i) xs) = omega (arith, look true e, sought .ahead) in
+          record { reached = omega arith; ahead = rw next at one }
+      sought-goes-on {good = false} e fine = absurd (subst T fine tt)
 
   -- the refusal, by an index that was found
   module _ {A : Type 0} (number : ℕ) (xs : List Float) (rest : Said A) (bad : ℕ) (found : bad ≡ firstBad is-good xs) where
@@ -59,7 +65,8 @@ module _ (is-good : Float → Bool) where
     none-bad h = rw (← found, le-ltb bad (length xs) h)
 
   -- where all are good, there is none
-  pub all-good : (xs : List Float) → ((i : ℕ) → i < length xs → is-good (getD xs i nan) ≡ true) → firstBad is-good xs ≡ length xs
+  pub all-good :
+      (xs : List Float) → ((i : ℕ) → i < length xs → is-good (getD xs i nan) ≡ true) → firstBad is-good xs ≡ length xs
   unfolding firstBad
   all-good [] each = refl
   all-good (x ∷ xs) each = rw (each 0 (omega arith)) (ap suc (all-good xs (λ i h. each (suc i) (omega arith))))

@@ -1,8 +1,9 @@
--- An answer is fixed by what document 01 says of it: two answers of which it says the same are equal. And what is accepted passed each test. Assumes nothing.
+-- An answer is fixed by what document 01 says of it: two answers of which it says the same are equal. And what is accepted
+-- passed each test. Assumes nothing.
 use mathlib.Core.Bool.{Bool, true, false}
-use mathlib.Core.Path.{_≡_, ap, ap₂}
+use mathlib.Core.Path.{_≡_, sym, ap, ap₂, _∙_}
 use Prim.Native.Nat.{ℕ}
-use Rattle.refusal.specs.Answer.{Said, accepted, refuseWhen, countSaid, wordSaid, doneSaid}
+use Rattle.refusal.specs.Answer.{Said, accepted, refuseWhen, countSaid, wordSaid, doneSaid, Counts, Numbers, Scores, ScoreNumbers}
 use Rattle.refusal.specs.declared.Refusal.{Refusal}
 use Rattle.refusal.specs.declared.Counted.{Counted}
 use Rattle.refusal.specs.declared.Counted.the-variants as counted
@@ -10,6 +11,7 @@ use Rattle.refusal.specs.declared.Decoded.{Decoded}
 use Rattle.refusal.specs.declared.Decoded.the-variants as decoded
 use Rattle.refusal.specs.declared.Put.{Put}
 use Rattle.refusal.specs.declared.Put.the-variants as put
+use Rattle.refusal.proofs.Determined.{Telling}
 
 abbrev made : ℕ → ℕ → Refusal
 made n p = record { number = n; place = p }
@@ -35,11 +37,27 @@ done-told put.Done (put.Refused r) e = cc
 done-told (put.Refused q) put.Done e = cc
 done-told (put.Refused q) (put.Refused r) e = ap put.Refused (same-refusal q r (cc) (cc))
 
+-- the same of each way to read an answer
+
+pub counts-tell : Telling Counts
+counts-tell said r r' p q = count-told r r' (p ∙ sym q)
+
+pub numbers-tell : Telling Numbers
+numbers-tell said r r' p q = p ∙ sym q
+
+pub scores-tell : Telling Scores
+scores-tell said r r' p q = word-told r r' (p ∙ sym q)
+
+pub score-numbers-tell : Telling ScoreNumbers
+score-numbers-tell said r r' p q = p ∙ sym q
+
 -- ---- what is accepted
 
 pub accepted-told : {A : Type 0} (a b : A) → accepted a ≡ accepted b → a ≡ b
 accepted-told a b e = cc
 
-pub accepted-past : {A : Type 0} (test : Bool) (number : ℕ) (rest : Said A) (a : A) → refuseWhen test number rest ≡ accepted a → rest ≡ accepted a
+pub accepted-past :
+    {A : Type 0} (test : Bool) (number : ℕ) (rest : Said A) (a : A) →
+    refuseWhen test number rest ≡ accepted a → rest ≡ accepted a
 accepted-past true number rest a e = cc
 accepted-past false number rest a e = e

@@ -1,10 +1,11 @@
--- Of each function, any two outcomes that its contract allows are equal. `Post` is the contract: of what the call is given, what it returns, and what it
--- leaves in each argument. Assumes nothing.
-use mathlib.Core.Path.{_≡_, sym, _∙_}
+-- Of each function, any two outcomes that its contract allows are equal. `Post` is the contract as the prover reads it: of
+-- what the call is given, what it returns, and what it leaves in each argument. Assumes nothing.
+use mathlib.Core.Path.{sym, _∙_}
 use Prim.Native.Nat.{ℕ}
 use Rattle.refusal.specs.declared.Counted.{Counted}
 use Rattle.refusal.specs.declared.Put.{Put}
-use Rattle.refusal.proofs.Told.{count-told, done-told}
+use Rattle.refusal.proofs.Determined.{Once}
+use Rattle.refusal.proofs.Told.{done-told, counts-tell, numbers-tell}
 use Rattle.refusal.proofs.no_count.Reads as no-count
 use Rattle.refusal.proofs.not_done.Reads as not-done
 use Rattle.refusal.proofs.count_number.Reads as count-number
@@ -12,26 +13,20 @@ use Rattle.refusal.proofs.word_number.Reads as word-number
 use Rattle.refusal.proofs.first_bad.Reads as first-bad
 use Rattle.refusal.proofs.first_beyond.Reads as first-beyond
 
-pub no-count-determined :
-    (κs : _) (given : _) (r r' : Counted) (left left' : _) → no-count.Post κs given r left → no-count.Post κs given r' left' → r ≡ r'
-no-count-determined κs given r r' left left' p q = count-told r r' (p ∙ sym q)
+pub no-count-once : (κs number : _) → Once (λ (r : Counted). no-count.Post κs (number, tt) r (number, tt))
+no-count-once κs number = counts-tell _
 
-pub not-done-determined :
-    (κs : _) (given : _) (r r' : Put) (left left' : _) → not-done.Post κs given r left → not-done.Post κs given r' left' → r ≡ r'
-not-done-determined κs given r r' left left' p q = done-told r r' (p ∙ sym q)
+pub not-done-once : (κs number : _) → Once (λ (r : Put). not-done.Post κs (number, tt) r (number, tt))
+not-done-once κs number r r' p q = done-told r r' (p ∙ sym q)
 
-pub count-number-determined :
-    (κs : _) (given : _) (r r' : ℕ) (left left' : _) → count-number.Post κs given r left → count-number.Post κs given r' left' → r ≡ r'
-count-number-determined κs given r r' left left' p q = p ∙ sym q
+pub count-number-once : (κs answer : _) → Once (λ (r : ℕ). count-number.Post κs (answer, tt) r (answer, tt))
+count-number-once κs answer = numbers-tell _
 
-pub word-number-determined :
-    (κs : _) (given : _) (r r' : ℕ) (left left' : _) → word-number.Post κs given r left → word-number.Post κs given r' left' → r ≡ r'
-word-number-determined κs given r r' left left' p q = p ∙ sym q
+pub word-number-once : (κs answer : _) → Once (λ (r : ℕ). word-number.Post κs (answer, tt) r (answer, tt))
+word-number-once κs answer r r' p q = p ∙ sym q
 
-pub first-bad-determined :
-    (κs : _) (given : _) (r r' : ℕ) (left left' : _) → first-bad.Post κs given r left → first-bad.Post κs given r' left' → r ≡ r'
-first-bad-determined κs given r r' left left' p q = p ∙ sym q
+pub first-bad-once : (κs readings : _) → Once (λ (r : ℕ). first-bad.Post κs (readings, tt) r (readings, tt))
+first-bad-once κs readings r r' p q = p ∙ sym q
 
-pub first-beyond-determined :
-    (κs : _) (given : _) (r r' : ℕ) (left left' : _) → first-beyond.Post κs given r left → first-beyond.Post κs given r' left' → r ≡ r'
-first-beyond-determined κs given r r' left left' p q = p ∙ sym q
+pub first-beyond-once : (κs components : _) → Once (λ (r : ℕ). first-beyond.Post κs (components, tt) r (components, tt))
+first-beyond-once κs components r r' p q = p ∙ sym q

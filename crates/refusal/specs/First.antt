@@ -14,4 +14,5 @@ firstBad is-good (x ∷ xs) = cond (is-good x) (suc (firstBad is-good xs)) zero
 
 -- refused with a number at the first bad value, where there is one
 abbrev pub refuseAtBad : {A : Type 0} → ℕ → (Float → Bool) → List Float → Said A → Said A
-refuseAtBad number is-good xs rest = cond (ltb (firstBad is-good xs) (length xs)) (refused number (firstBad is-good xs)) rest
+refuseAtBad number is-good xs rest =
+    cond (ltb (firstBad is-good xs) (length xs)) (refused number (firstBad is-good xs)) rest

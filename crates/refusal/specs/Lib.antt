@@ -1,5 +1,5 @@
--- Answer: what document 01 says of an answer. First: the place of the first bad value. Lent: what a call leaves in a lent buffer. Limits: how much one
--- call may bring.
+-- Answer: what document 01 says of an answer, and how a promise reads it. First: the place of the first bad value.
+-- Lent: what a call leaves in a lent buffer, and the promise of that. Limits: how much one call may bring.
 pub mod Answer
 pub mod First
 pub mod Lent

@@ -1,6 +1,8 @@
-// What an entry answers: its value, or a refusal with document 01's number and a place; and the place of refusals 6 and 7.
+// What an entry answers: its value, or a refusal with document 01's number and a place; and the place of refusals 6
+// and 7.
 ghost use mathlib.Core.Path.{_≡_};
-ghost use Rattle.refusal.specs.Answer.{countSaid, wordSaid, doneSaid, scoreBits, refused, doorNumber};
+ghost use Rattle.refusal.specs.Answer.{countSaid, wordSaid, doneSaid, refused};
+ghost use Rattle.refusal.specs.Answer.{Counts, Numbers, ScoreNumbers};
 ghost use Rattle.refusal.specs.First.{firstBad};
 ghost use Rattle.f32s.specs.Single.{finite, within};
 
@@ -35,7 +37,7 @@ pub enum Put {
 
 // The refusal of a call whose answer is a count, at place 0.
 pub fn no_count(number: u8) -> Counted
-    ensures { λ r. ⌜ countSaid r ≡ refused number 0 ⌝ }
+    ensures { λ r. ⌜ Counts r (refused number 0) ⌝ }
 {
     Counted::Refused(Refusal { number, place: 0 })
 }
@@ -49,14 +51,14 @@ pub fn not_done(number: u8) -> Put
 
 // A refusal as the one number that a door returns.
 fn refused_number(r: Refusal) -> u64
-    ensures { λ n. ⌜ n ≡ doorNumber (refused (r .number) (r .place)) ⌝ }
+    ensures { λ n. ⌜ Numbers n (refused (r .number) (r .place)) ⌝ }
 {
     (r.number as u64) * 0x1_0000_0000 + (r.place as u64)
 }
 
 // A count's answer as that number.
 pub fn count_number(answer: Counted) -> u64
-    ensures { λ r. ⌜ r ≡ doorNumber (countSaid answer) ⌝ }
+    ensures { λ r. ⌜ Numbers r (countSaid answer) ⌝ }
 {
     match answer {
         Counted::Count(n) => n as u64,
@@ -66,7 +68,7 @@ pub fn count_number(answer: Counted) -> u64
 
 // A word's answer as that number.
 pub fn word_number(answer: Decoded) -> u64
-    ensures { λ r. ⌜ r ≡ doorNumber (scoreBits (wordSaid answer)) ⌝ }
+    ensures { λ r. ⌜ ScoreNumbers r (wordSaid answer) ⌝ }
 {
     match answer {
         Decoded::Word(score) => f32s::bits_of(score) as u64,
@@ -88,7 +90,8 @@ pub fn first_bad(readings: &[f32]) -> usize
     used
 }
 
-// The place of refusal 7: the index of the first component that is NaN or beyond ±1,024, and the length where none is.
+// The place of refusal 7: the index of the first component that is NaN or beyond ±1,024, and the length where none
+// is.
 pub fn first_beyond(components: &[f32]) -> usize
     ensures { λ r. ⌜ r ≡ firstBad within (now (components .entry)) ⌝ }
 {

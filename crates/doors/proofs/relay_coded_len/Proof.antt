@@ -5,14 +5,8 @@ use Rattle.refusal.specs.Answer.{doorNumber}
 use Rattle.doors.proofs.relay_coded_len.Statement.{statement}
 use Rattle.doors.proofs.relay_coded_len.Tie as tie
 
-punctured-coded-len-with-requires : tie.Need-punctured-coded-len-with-requires
-punctured-coded-len-with-requires c κs = search needs
-
-count-number-requires : tie.Need-count-number-requires
-count-number-requires c κs = search needs
-
 returns : tie.Need-returns
 returns c = c .count-number .ensures ∙ ap doorNumber (c .before .punctured-coded-len-with .ensures)
 
 pub relay-coded-len-spec : {M : Type 1} → statement M
-relay-coded-len-spec = tie.close (tie.spec punctured-coded-len-with-requires count-number-requires returns)
+relay-coded-len-spec = tie.close (tie.spec (search needs) (search needs) returns)

@@ -5,19 +5,11 @@ use Rattle.refusal.specs.Answer.{doorNumber}
 use Rattle.doors.proofs.relay_conv_encode.Statement.{statement}
 use Rattle.doors.proofs.relay_conv_encode.Tie as tie
 
-conv-encode-requires : tie.Need-conv-encode-requires
-conv-encode-requires c κs = search needs
-
-count-number-requires : tie.Need-count-number-requires
-count-number-requires c κs = search needs
-
-same-length : tie.Need-same-length
-same-length c = search needs
-
 returns : tie.Need-returns
 returns c =
-    let called = c .before .before .before .conv-encode in
-    (c .count-number .ensures ∙ ap doorNumber (called .ensures .0), called .ensures .1)
+    let called : tie.After-conv-encode = search in
+    let encodes = called .conv-encode .ensures in
+    record { answer = c .count-number .ensures ∙ ap doorNumber (encodes .answer); output = encodes .output }
 
 pub relay-conv-encode-spec : {M : Type 1} → statement M
-relay-conv-encode-spec = tie.close (tie.spec conv-encode-requires count-number-requires same-length returns)
+relay-conv-encode-spec = tie.close (tie.spec (search needs) (search needs) (search needs) returns)

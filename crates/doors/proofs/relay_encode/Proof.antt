@@ -5,19 +5,11 @@ use Rattle.refusal.specs.Answer.{doorNumber}
 use Rattle.doors.proofs.relay_encode.Statement.{statement}
 use Rattle.doors.proofs.relay_encode.Tie as tie
 
-conv-encode-punctured-with-requires : tie.Need-conv-encode-punctured-with-requires
-conv-encode-punctured-with-requires c κs = search needs
-
-count-number-requires : tie.Need-count-number-requires
-count-number-requires c κs = search needs
-
-same-length : tie.Need-same-length
-same-length c = search needs
-
 returns : tie.Need-returns
 returns c =
-    let called = c .before .before .before .conv-encode-punctured-with in
-    (c .count-number .ensures ∙ ap doorNumber (called .ensures .0), called .ensures .1)
+    let called : tie.After-conv-encode-punctured-with = search in
+    let encodes = called .conv-encode-punctured-with .ensures in
+    record { answer = c .count-number .ensures ∙ ap doorNumber (encodes .answer); output = encodes .output }
 
 pub relay-encode-spec : {M : Type 1} → statement M
-relay-encode-spec = tie.close (tie.spec conv-encode-punctured-with-requires count-number-requires same-length returns)
+relay-encode-spec = tie.close (tie.spec (search needs) (search needs) (search needs) returns)

@@ -7,12 +7,6 @@ use Rattle.trellis.proofs.Sent.{getD-lowest}
 use Rattle.encoder.proofs.input_at.Statement.{statement}
 use Rattle.encoder.proofs.input_at.Tie as tie
 
-shared-slice-read-result : tie.Need-shared-slice-read-result
-shared-slice-read-result c = search needs
-
-cast-result : tie.Need-cast-result
-cast-result c = search needs
-
 returns : tie.Need-returns
 returns c = sym (getD-lowest _ _)
 
@@ -20,4 +14,4 @@ returns-2 : tie.Need-returns-2
 returns-2 c = sym (getD-lowest _ _ ∙ ap (λ (n : ℕ). n % 2) (List·getD-eq-default (c .before .args .bits .now) 0 (c .if1 .left)))
 
 pub input-at-spec : {M : Type 1} → statement M
-input-at-spec = tie.close (tie.spec shared-slice-read-result cast-result returns returns-2)
+input-at-spec = tie.close (tie.spec (search needs) (search needs) returns returns-2)

@@ -104,7 +104,7 @@ module _ (c : tie.After-viterbi-decode-bytes) where
         is = is (c .before .before .before .before .before .before .before .before .before);
         asks = asks-count given (c .before .before .before .before .asked .result) _ (c .before .before .before .before .asked .ensures) refl;
         behind = rest-taken given 4 (length given) refl;
-        says = c .viterbi-decode-bytes .ensures .0;
+        says = c .viterbi-decode-bytes .ensures .answer;
       }
 
 returns-2 : tie.Need-returns-2
@@ -144,7 +144,7 @@ word-line-requires c κs = omega (arith, few (c .before), front-long (c .before)
 returns-3 : tie.Need-returns-3
 returns-3 c =
     let told = c .before .before in
-    rw (word-output (call (called told)) (told .before .decoded .given .1) (left told) (called told .viterbi-decode-bytes .ensures .1 .0))
+    rw (word-output (call (called told)) (told .before .decoded .given .1) (left told) (called told .viterbi-decode-bytes .ensures .output))
     (c .word-line .ensures)
 
 pub answer-spec : {M : Type 1} → statement M

@@ -16,40 +16,31 @@ use Rattle.readings.proofs.Rows.{word-traceable, word-traced}
 use Rattle.readings.proofs.decode.Statement.{statement}
 use Rattle.readings.proofs.decode.Tie as tie
 
-add-steps : tie.Need-add-steps
-add-steps c = search needs
-
-forward-requires : tie.Need-forward-requires
-forward-requires c κs = search needs
-
 trace-requires : tie.Need-trace-requires
 trace-requires c κs =
-    let start = c .before .before .before .before .before .before .before .before .before .before in
-    word-traceable (start .args .code) (start .args .half) (keepOf (start .args .keep)) (start .args .readings .now) (start .args .info) _ _ (start .pre .0) (c .before .before .before .before .forward .ensures .1) _ _ (omega (arith, pow-pos (start .args .code .width - 1), start .pre .0 .halved)) (start .pre .1 .1 .1 .0)
-
-same-length : tie.Need-same-length
-same-length c = search needs
-
-same-length-2 : tie.Need-same-length-2
-same-length-2 c = search needs
+    let ran : tie.After-forward = search in
+    let start : tie.Start = search in
+    let (scored, survivors) = ran .forward .ensures in
+    word-traceable (start .args .code) (start .args .half) (keepOf (start .args .keep)) (start .args .readings .now)
+    (start .args .info) _ _ (start .pre .shape) survivors _ _
+    (omega (arith, pow-pos (start .args .code .width - 1), start .pre .shape .halved)) (start .pre .room)
 
 returns : tie.Need-returns
 unfolding score
 returns c =
-    let start = c .before .before .before .before .before .before .before .before .before .before .before .before .before in
+    let traced-back : tie.After-trace = search in
+    let ran : tie.After-forward = search in
+    let start : tie.Start = search in
     let args = start .args in
-    let forward = c .before .before .before .before .before .before .before .forward .ensures in
-    let back : _ ≡ take (args .info) (traced wholes (args .code) (rowOf (2 * args .half) _) (stepsOf (args .code) (args .info)) 0) ++ drop (args .info) (args .out .now) = c .before .before .trace .ensures in (
-      forward .0,
-      (
-        back
-            ∙ ap (λ (l : List ℕ). l ++ drop (args .info) (args .out .now))
-            (word-traced (args .code) (args .half) (keepOf (args .keep)) (args .readings .now) (args .info) _ _ (start .pre .0) (forward .1) 0 refl),
-        forward .1,
-      ),
-    )
+    let (scored, survivors) = ran .forward .ensures in
+    let rest = drop (args .info) (args .out .now) in
+    let way = traced wholes (args .code) (rowOf (2 * args .half) _) (stepsOf (args .code) (args .info)) 0 in
+    let back : _ ≡ take (args .info) way ++ rest = traced-back .trace .ensures in
+    let word =
+    word-traced (args .code) (args .half) (keepOf (args .keep)) (args .readings .now) (args .info) _ _ (start .pre .shape)
+    survivors 0 refl in
+    record { scored = scored; output = back ∙ ap (λ (l : List ℕ). l ++ rest) word; survivors = survivors }
 
 pub decode-spec : {M : Type 1} → statement M
 decode-spec =
-    tie.close
-    (tie.spec add-steps forward-requires trace-requires same-length same-length-2 returns)
+    tie.close (tie.spec (search needs) (search needs) trace-requires (search needs) (search needs) returns)

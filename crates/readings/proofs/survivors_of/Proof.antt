@@ -6,9 +6,6 @@ use Rattle.readings.proofs.Selected.{same-rows, half-few, rows-few}
 use Rattle.readings.proofs.survivors_of.Statement.{statement}
 use Rattle.readings.proofs.survivors_of.Tie as tie
 
-conv-code-requires : tie.Need-conv-code-requires
-conv-code-requires c κs = search needs
-
 add-steps : tie.Need-add-steps
 add-steps c = omega (arith, chosen-narrow _ _ (c .before .conv-code .ensures) .narrow)
 
@@ -16,15 +13,21 @@ half-of-requires : tie.Need-half-of-requires
 half-of-requires c κs = chosen-narrow _ _ (c .before .conv-code .ensures)
 
 mul-result : tie.Need-mul-result
-mul-result c = omega (arith, half-few (c .before .before .before .args .code) (c .before .before .before .args .info) _ _ (c .before .before .conv-code .ensures) (c .half-of .ensures))
+mul-result c =
+    let code : tie.After-conv-code = search in
+    let start : tie.Start = search in
+    omega (arith, half-few (start .args .code) (start .args .info) (code .conv-code .ensures) (c .half-of .ensures))
 
 mul-result-2 : tie.Need-mul-result-2
-mul-result-2 c = omega (arith, rows-few (c .before .before .before .args .code) (c .before .before .before .args .info) _ _ (c .before .before .conv-code .ensures) (c .half-of .ensures) (c .before .before .before .pre))
+mul-result-2 c =
+    let code : tie.After-conv-code = search in
+    let start : tie.Start = search in
+    omega (arith, rows-few (start .args .code) (start .args .info) (code .conv-code .ensures) (c .half-of .ensures) (start .pre))
 
 returns : tie.Need-returns
-returns c = same-rows (c .before .before .before .args .code) (c .before .before .before .args .info) _ _ (c .before .before .conv-code .ensures) (c .half-of .ensures)
+returns c =
+    let code : tie.After-conv-code = search in
+    same-rows _ _ (code .conv-code .ensures) (c .half-of .ensures)
 
 pub survivors-of-spec : {M : Type 1} → statement M
-survivors-of-spec =
-    tie.close
-    (tie.spec conv-code-requires add-steps half-of-requires mul-result mul-result-2 returns)
+survivors-of-spec = tie.close (tie.spec (search needs) add-steps half-of-requires mul-result mul-result-2 returns)

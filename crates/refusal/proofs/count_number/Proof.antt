@@ -6,23 +6,17 @@ use Rattle.refusal.specs.Answer.{countSaid, doorNumber}
 use Rattle.refusal.proofs.count_number.Statement.{statement}
 use Rattle.refusal.proofs.count_number.Tie as tie
 
-enum-known-answer : tie.Need-enum-known-answer
-enum-known-answer c = search needs
-
-enum-known-answer-2 : tie.Need-enum-known-answer-2
-enum-known-answer-2 c = search needs
-
-refused-number-requires : tie.Need-refused-number-requires
-refused-number-requires c κs = search needs
-
 returns : tie.Need-returns
 unfolding doorNumber
-returns c = sym (ap (λ (a : Counted). doorNumber (countSaid a)) (c .before .answer .given .1))
+returns c =
+    let (count, is) = c .before .answer .given in
+    sym (ap (λ (a : Counted). doorNumber (countSaid a)) is)
 
 returns-2 : tie.Need-returns-2
-returns-2 c = c .refused-number .ensures ∙ sym (ap (λ (a : Counted). doorNumber (countSaid a)) (c .before .before .answer2 .given .1))
+returns-2 c =
+    let arm : tie.After-answer2 = search in
+    let (refusal, is) = arm .answer2 .given in
+    c .refused-number .ensures ∙ sym (ap (λ (a : Counted). doorNumber (countSaid a)) is)
 
 pub count-number-spec : {M : Type 1} → statement M
-count-number-spec =
-    tie.close
-    (tie.spec enum-known-answer enum-known-answer-2 refused-number-requires returns returns-2)
+count-number-spec = tie.close (tie.spec (search needs) (search needs) (search needs) returns returns-2)
