@@ -25,7 +25,7 @@ use Rattle.trellis.specs.Codeword.{stepsOf}
 use Rattle.trellis.proofs.Chosen.{code-narrow, rate-pattern}
 use Rattle.trellis.proofs.Kept.{coded-le}
 use Rattle.readings.specs.Decode.{word, score, filledRows}
-use Rattle.readings.specs.Post.{UsedOf, FindsAt}
+use Rattle.readings.specs.Inner.{UsedOf, FindsAt}
 use Rattle.readings.specs.Said.{mostReadings, survivorsOf, examined, decodeSaid}
 use Rattle.readings.proofs.Counts.{length-word, length-filled}
 use Rattle.readings.proofs.Selected.{code-width}

@@ -6,7 +6,6 @@ use native.Mathlib.Nat.{mul-le-mul-right}
 use native.Mathlib.Omega.{arith}
 use lib.Dec.{lit≤}
 use lib.Ieee.{Float}
-use lib.ListN.{length}
 use lib.Pow.{pow-mono}
 use Rattle.encoder.proofs.Selected.{chosen-narrow, chosen-rows, keep-chosen}
 use Rattle.refusal.specs.Lent.{Lent}
@@ -18,7 +17,7 @@ use Rattle.trellis.specs.Codeword.{stepsOf}
 use Rattle.trellis.specs.Post.{Halved}
 use Rattle.trellis.proofs.Chosen.{code-narrow, code-ends}
 use Rattle.trellis.proofs.States.{states-two-halves}
-use Rattle.readings.specs.Post.{Decodable, Finds, FindsAt}
+use Rattle.readings.specs.Inner.{Decodable, Finds, DecodableAt, FindsAt}
 use Rattle.readings.specs.Said.{survivorsOf}
 
 pub code-width : (n : ℕ) → codeOf n .width ≤ 6
@@ -64,15 +63,14 @@ module _ (code info : ℕ) {chosen : ConvCode} {half : ℕ} (e : chosen ≡ code
 
   module _ (rate : ℕ) {keep : KeepPattern} (f : keep ≡ heldOf (patternOf rate)) where
     pub decode-ready :
-        {out scratch : List ℕ} → info ≤ most → info ≤ length out → survivorsOf code info ≤ length scratch →
-        Decodable chosen half keep info out scratch
-    decode-ready few room rows =
+        {out scratch : List ℕ} → DecodableAt code info out scratch → Decodable chosen half keep info out scratch
+    decode-ready ready =
         record {
           shape = rw e (code-halved code half of-half);
           pattern = chosen-rows keep rate f;
-          few = few;
-          room = room;
-          rows = omega (arith, same-rows, rows);
+          few = ready .few;
+          room = ready .room;
+          rows = omega (arith, same-rows, ready .rows);
         }
 
     -- so what is found is what the numbers select

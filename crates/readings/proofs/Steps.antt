@@ -1,32 +1,35 @@
--- Steps one after the other: the metrics that the code holds agree with those after t steps, and the rows of survivors grow. Assumes nothing.
-use mathlib.Core.Bool.{Bool, true, false, cond}
+-- Steps one after the other: the metrics that the code holds agree with those after t steps, the readings are read in order,
+-- and the rows of survivors grow. Assumes nothing.
+use mathlib.Core.Bool.{Bool, true, false}
 use mathlib.Core.List.{List, _++_}
 use mathlib.Core.Path.{_≡_, refl, sym, ap, ap₂, _∙_}
-use Prim.Native.Nat.{ℕ, zero, suc, _+_, _%_, _^_, _≤_, _<_}
-use native.Mathlib.Nat.{mod-lt}
+use Prim.Native.Nat.{ℕ, zero, suc, _+_, _-_, _*_, _%_, _^_, _≤_, _<_}
+use native.Mathlib.Nat.{le-trans, mod-lt, mod-eq-of-lt, suc-mul, mul-le-mul-right}
 use native.Mathlib.Numerals.{add-one}
 use native.Mathlib.Omega.{arith}
 use lib.Dec.{eqb}
 use lib.Ieee.{Float, nan}
-use lib.ListN.{getD, set, replicate, getD-replicate}
+use lib.ListN.{length, getD, set, take, drop, replicate, getD-replicate, length-append, length-drop}
+use lib.Pow.{pow-pos}
 use lib.Seq.{getD-set-other}
 use Rattle.best_path.specs.Run.{metsAfter}
 use Rattle.best_path.proofs.Held.{held-froms, held-next}
-use Rattle.best_path.proofs.Rows.{StateRows, survivor-rows}
+use Rattle.best_path.proofs.Rows.{StateRows, survivor-rows, length-rows, row-fits, row-next, rows-start, rows-put}
 use Rattle.best_path.proofs.Start.{others-marked}
 use Rattle.f32s.specs.Single.{zero32}
 use Rattle.trellis.specs.declared.ConvCode.{ConvCode}
 use Rattle.trellis.specs.declared.KeepPattern.{KeepPattern}
 use Rattle.trellis.specs.Choice.{keepOf}
 use Rattle.trellis.specs.Keep.{Keep, keeps0, keeps1, codedLength}
-use Rattle.trellis.specs.Post.{Rows}
-use Rattle.trellis.proofs.Columns.{rows-pattern, keeps0-column, keeps1-column}
+use Rattle.trellis.specs.Post.{Rows, Halved, Crossed}
+use Rattle.trellis.proofs.Columns.{rows-pattern, keeps0-column, keeps1-column, column-next}
 use Rattle.trellis.proofs.Kept.{one, coded-suc, coded-le}
+use Rattle.trellis.proofs.States.{states-two-halves}
 use Rattle.readings.specs.Places.{valueOf, filled, place0, place1}
 use Rattle.branches.specs.Largest.{mark, largest}
 use Rattle.readings.specs.Sums.{brings, gain, started}
-use Rattle.readings.specs.Decode.{mets, froms}
-use Rattle.readings.specs.Post.{newMets, newFroms}
+use Rattle.readings.specs.Decode.{mets, froms, filledRows}
+use Rattle.readings.specs.Inner.{newMets, newFroms, Selects, Runnable, Runs}
 
 -- the metrics as the code holds them, in an array that may be longer
 abbrev pub Agrees : ConvCode → Keep → List Float → List Float → ℕ → Type 0
@@ -36,23 +39,26 @@ module _ (code : ConvCode) (some : 0 < code .width) (p : Keep) (readings : List 
   abbrev states : ℕ
   states = 2 ^ code .width
 
-  pub agrees-start : states ≤ 64 → Agrees code p readings (set (replicate 64 mark) 0 zero32) 0
+  agrees-start : states ≤ 64 → Agrees code p readings (set (replicate 64 mark) 0 zero32) 0
   unfolding mets metsAfter
   agrees-start few zero h = refl
   agrees-start few (suc s) h =
-      getD-set-other (replicate 64 mark) 0 (suc s) zero32 nan (λ e. omega arith) ∙ getD-replicate 64 (suc s) mark nan (omega (arith, h, few))
+      getD-set-other (replicate 64 mark) 0 (suc s) zero32 nan (λ e. omega arith)
+      ∙ getD-replicate 64 (suc s) mark nan (omega (arith, h, few))
       ∙ sym (others-marked largest code zero32 s)
 
-  module _ (pm : List Float) (a b : Float) (t : ℕ) (agrees : Agrees code p readings pm t) (of-a : a ≡ valueOf (place0 p readings t)) (of-b : b ≡ valueOf (place1 p readings t)) where
+  module _
+      (pm : List Float) (a b : Float) (t : ℕ) (agrees : Agrees code p readings pm t)
+      (of-a : a ≡ valueOf (place0 p readings t)) (of-b : b ≡ valueOf (place1 p readings t)) where
     same-gain : brings code a b ≡ gain code p readings t
     unfolding gain
     same-gain = ap₂ (brings code) of-a of-b
 
-    pub new-froms : newFroms code pm a b ≡ froms code p readings t
+    new-froms : newFroms code pm a b ≡ froms code p readings t
     unfolding froms mets
     new-froms = held-froms largest code (gain code p readings) (started code) nan pm t agrees (brings code a b) same-gain
 
-    pub agrees-next : (next rest : List Float) → next ≡ newMets code pm a b ++ rest → Agrees code p readings next (t + 1)
+    agrees-next : (next rest : List Float) → next ≡ newMets code pm a b ++ rest → Agrees code p readings next (t + 1)
     unfolding mets
     agrees-next = held-next largest code (gain code p readings) (started code) nan pm t agrees (brings code a b) same-gain some
 
@@ -61,48 +67,165 @@ module _ (code : ConvCode) (some : 0 < code .width) (p : Keep) (readings : List 
   unfolding froms
   rows-filled width same = rw same (survivor-rows largest code some (gain code p readings) (started code))
 
--- ---- which readings a step reads
-
-pub one-at-most : (b : Bool) → cond b 1 0 ≤ 1
+one-at-most : (b : Bool) → one b ≤ 1
 one-at-most true = omega arith
 one-at-most false = omega arith
 
-pub none-coded : (m : KeepPattern) → Rows m → codedLength (keepOf m) 0 ≡ 0
-none-coded m rows = omega (arith, coded-le (keepOf m) (rows-pattern m rows) 0)
+-- ---- the loop
+
+-- The invariant: after t steps column, at and to are t's, the metrics agree with the definition's, and the survivors of t steps
+-- stand over the front of the rows.
+pub record Forwarded
+    (code : ConvCode) (half : ℕ) (keep : KeepPattern) (readings : List Float) (steps : ℕ) (old c0 c1 : List ℕ)
+    (rows : List ℕ) (pm : List Float) (column at to t : ℕ) : Type 0 where
+  pub ready : Runnable code half keep steps old
+  pub crossed : Crossed code half c0 c1
+  pub turns : t ≤ steps
+  pub counted : column ≡ t % keep .period
+  pub behind : at ≡ codedLength (keepOf keep) t
+  pub place : to ≡ t * (2 * half)
+  pub agrees : Agrees code (keepOf keep) readings pm t
+  pub survivors : rows ≡ filledRows code (keepOf keep) readings t ++ drop (t * (2 * half)) old
+
+-- what the code's shape says of its states
+module _ {code : ConvCode} {half : ℕ} (shape : Halved code half) where
+  two-halves : 2 * half ≡ 2 ^ code .width
+  two-halves = omega (arith, states-two-halves code (shape .held .some), shape .halved)
+
+  filled-by : (p : Keep) (readings : List Float) → StateRows (2 * half) (froms code p readings)
+  filled-by p readings = rows-filled code (shape .held .some) p readings (2 * half) two-halves
+
+pub forwarded-starts :
+    {code : ConvCode} {half : ℕ} {keep : KeepPattern} {readings : List Float} {steps : ℕ} {old c0 c1 : List ℕ} →
+    Runnable code half keep steps old → Crossed code half c0 c1 →
+    Forwarded code half keep readings steps old c0 c1 old (set (replicate 64 mark) 0 zero32) 0 0 0 0
+forwarded-starts {code} {half} {keep} {readings} {steps} {old} ready crossed =
+    let shape = ready .shape in
+    let p = keepOf keep in
+    record {
+      ready = ready;
+      crossed = crossed;
+      turns = omega arith;
+      counted = sym (mod-eq-of-lt (ready .pattern .some));
+      behind = omega (arith, coded-le p (rows-pattern keep (ready .pattern)) 0);
+      place = omega arith;
+      agrees = agrees-start code (shape .held .some) p readings (omega (arith, two-halves shape, shape .few));
+      survivors = rows-start (filled-by shape p readings) old;
+    }
 
 module _
-    (m : KeepPattern) (rows : Rows m) (readings : List Float) (t column at : ℕ)
-    (of-column : column ≡ t % m .period) (of-at : at ≡ codedLength (keepOf m) t) where
+    {code : ConvCode} {half : ℕ} {keep : KeepPattern} {readings : List Float} {steps : ℕ} {old c0 c1 : List ℕ} {rows : List ℕ}
+    {pm : List Float} {column at to t : ℕ} (now : Forwarded code half keep readings steps old c0 c1 rows pm column at to t) where
   abbrev p : Keep
-  p = keepOf m
+  p = keepOf keep
 
-  kept0 : eqb (getD (m .row0) column 0) 1 ≡ keeps0 p t
-  kept0 = ap (λ (j : ℕ). eqb (getD (m .row0) j 0) 1) of-column ∙ sym (keeps0-column m rows t)
+  abbrev shape : Halved code half
+  shape = now .ready .shape
 
-  kept1 : eqb (getD (m .row1) column 0) 1 ≡ keeps1 p t
-  kept1 = ap (λ (j : ℕ). eqb (getD (m .row1) j 0) 1) of-column ∙ sym (keeps1-column m rows t)
+  abbrev pattern : Rows keep
+  pattern = now .ready .pattern
 
-  pub column-below : column < m .period
-  column-below = omega (arith, of-column, mod-lt t (rows .some))
+  abbrev some : 0 < code .width
+  some = shape .held .some
+
+  -- the rows are as long as they were
+  pub rows-sized : length rows ≡ length old
+  rows-sized =
+      let front = length-rows (filled-by shape p readings) t in
+      let within = mul-le-mul-right (2 * half) (now .turns) in
+      ap length (now .survivors)
+      ∙ simp (length-append, length-drop) (omega (arith, front, within, now .ready .room))
+
+  pub forwarded-ends :
+      steps ≤ t → Runs code p (2 * half) steps readings (getD pm 0 nan) (record { given = old; left = rows })
+  forwarded-ends past =
+      let end : t ≡ steps = omega (arith, now .turns) in
+      record { last = rw end at (now .agrees 0 (pow-pos (code .width))); survivors = rw end at (now .survivors) }
+
+  pub column-below : column < keep .period
+  column-below = omega (arith, now .counted, mod-lt t (pattern .some))
 
   pub column-within : column < 7
-  column-within = omega (arith, column-below, rows .seven)
+  column-within = omega (arith, column-below, pattern .seven)
 
-  pub reads-few : (steps : ℕ) → t < steps → steps ≤ 65536 → at < 131072
-  reads-few steps h few = omega (arith, of-at, h, few, coded-le p (rows-pattern m rows) t)
+  -- what the columns of the step keep
+  abbrev first : Bool
+  first = eqb (getD (keep .row0) column 0) 1
 
-  pub reads-place0 : (a : Float) → a ≡ valueOf (filled (eqb (getD (m .row0) column 0) 1) readings at) → a ≡ valueOf (place0 p readings t)
-  unfolding place0
-  reads-place0 a e = e ∙ ap₂ (λ (k : Bool) (n : ℕ). valueOf (filled k readings n)) kept0 of-at
+  abbrev second : Bool
+  second = eqb (getD (keep .row1) column 0) 1
 
-  module _ (then : ℕ) (of-then : then ≡ at + cond (eqb (getD (m .row0) column 0) 1) 1 0) where
-    pub reads-place1 : (b : Float) → b ≡ valueOf (filled (eqb (getD (m .row1) column 0) 1) readings then) → b ≡ valueOf (place1 p readings t)
-    unfolding place1
-    reads-place1 b e =
-        e ∙ ap₂ (λ (k : Bool) (n : ℕ). valueOf (filled k readings n)) kept1 (of-then ∙ ap₂ (λ (n : ℕ) (k : Bool). n + cond k 1 0) of-at kept0)
+  first-kept : first ≡ keeps0 p t
+  first-kept = ap (λ (j : ℕ). eqb (getD (keep .row0) j 0) 1) (now .counted) ∙ sym (keeps0-column keep pattern t)
 
-    pub counts-both : (end : ℕ) → end ≡ then + cond (eqb (getD (m .row1) column 0) 1) 1 0 → end ≡ codedLength p (t + 1)
-    counts-both end e =
-        let first : cond (eqb (getD (m .row0) column 0) 1) 1 0 ≡ one (keeps0 p t) = ap one kept0 in
-        let second : cond (eqb (getD (m .row1) column 0) 1) 1 0 ≡ one (keeps1 p t) = ap one kept1 in
-        omega (arith, e, of-then, of-at, first, second, coded-suc p (rows-pattern m rows) t) ∙ ap (codedLength p) (sym (add-one t))
+  second-kept : second ≡ keeps1 p t
+  second-kept = ap (λ (j : ℕ). eqb (getD (keep .row1) j 0) 1) (now .counted) ∙ sym (keeps1-column keep pattern t)
+
+  -- a step
+  module _ (h : t < steps) where
+    pub reads-few : at < 131072
+    reads-few = omega (arith, now .behind, now .ready .few, coded-le p (rows-pattern keep pattern) t)
+
+    pub row-within : to + 2 * half ≤ length rows
+    row-within = omega (arith, now .place, rows-sized, row-fits t steps (2 * half) (length old) h (now .ready .room))
+
+    pub row-few : to + 2 * half ≤ 4194304
+    row-few =
+        let turns = mul-le-mul-right (2 * half) (le-trans h (now .ready .few)) in
+        omega (arith, now .place, suc-mul t (2 * half), turns, shape .few)
+
+    -- its first place is read
+    module _
+        {a : Float} {middle : ℕ} (of-a : a ≡ valueOf (filled first readings at)) (of-middle : middle ≡ at + one first) where
+      reads-first : a ≡ valueOf (place0 p readings t)
+      unfolding place0
+      reads-first = of-a ∙ ap₂ (λ (k : Bool) (n : ℕ). valueOf (filled k readings n)) first-kept (now .behind)
+
+      pub middle-few : middle ≤ 131072
+      middle-few = omega (arith, of-middle, reads-few, one-at-most first)
+
+      -- and its second
+      module _ {b : Float} {end : ℕ} (of-b : b ≡ valueOf (filled second readings middle)) (of-end : end ≡ middle + one second) where
+        reads-second : b ≡ valueOf (place1 p readings t)
+        unfolding place1
+        reads-second =
+            of-b
+            ∙ ap₂ (λ (k : Bool) (n : ℕ). valueOf (filled k readings n)) second-kept
+            (of-middle ∙ ap₂ (λ (n : ℕ) (k : Bool). n + one k) (now .behind) first-kept)
+
+        both-read : end ≡ codedLength p (t + 1)
+        both-read =
+            omega (
+              arith,
+              of-end,
+              of-middle,
+              now .behind,
+              ap one first-kept,
+              ap one second-kept,
+              coded-suc p (rows-pattern keep pattern) t,
+            )
+            ∙ ap (codedLength p) (sym (add-one t))
+
+        pub forwarded-goes-on :
+            {next next' : List Float} {part : List ℕ} {column' : ℕ} →
+            Selects code pm a b (record { given = next; left = next' })
+            (record { given = take (length rows - to) (drop to rows); left = part }) →
+            column' ≡ (column + 1) % keep .period →
+            Forwarded code half keep readings steps old c0 c1
+            (take to rows ++ (part ++ drop (length rows - to) (drop to rows))) next' column' end (to + 2 * half) (t + 1)
+        forwarded-goes-on {next} {next'} {part} {column'} selects counted' =
+            let rest = take (length rows - to) (drop to rows) in
+            let froms-row = new-froms code some p readings pm a b t (now .agrees) reads-first reads-second in
+            let row : part ≡ froms code p readings t ++ drop (2 * half) rest =
+            selects .froms ∙ ap₂ (λ (l : List ℕ) (n : ℕ). l ++ drop n rest) froms-row (sym (two-halves shape)) in
+            record {
+              ready = now .ready;
+              crossed = now .crossed;
+              turns = omega arith;
+              counted = column-next (keep .period) t column column' (now .counted) counted';
+              behind = both-read;
+              place = row-next to t (2 * half) (now .place);
+              agrees =
+                  agrees-next code some p readings pm a b t (now .agrees) reads-first reads-second next' _ (selects .mets);
+              survivors = rows-put (filled-by shape p readings) old rows part to t (now .survivors) (now .place) row;
+            }

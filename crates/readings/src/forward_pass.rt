@@ -1,16 +1,12 @@
 // All steps from state 0: add, compare, select, with the survivors of each kept.
 ghost use mathlib.Core.Bool.{cond};
-ghost use mathlib.Core.List.{_++_};
 ghost use mathlib.Core.Path.{_≡_};
-ghost use Prim.Native.Nat.{_+_, _*_, _^_, _<_, _≤_};
+ghost use Prim.Native.Nat.{_+_, _*_, _<_};
 ghost use lib.Dec.{eqb};
-ghost use lib.ListN.{length, getD, drop};
-ghost use Rattle.readings.specs.Decode.{mets, filledRows};
-ghost use Rattle.readings.specs.Places.{valueOf, filled};
-ghost use Rattle.readings.specs.Post.{newMets, newFroms};
-ghost use Rattle.branches.specs.Largest.{mark};
+ghost use Rattle.refusal.specs.Lent.{lent};
 ghost use Rattle.trellis.specs.Choice.{keepOf};
-ghost use Rattle.trellis.specs.Post.{Rows, Halved, Crossed};
+ghost use Rattle.readings.specs.Inner.{Steppable, Selects, Runnable, Runs};
+ghost use Rattle.readings.specs.Places.{valueOf, filled};
 use branches::largest::MARK;
 use branches::largest::butterfly;
 use branches::largest::signed;
@@ -31,10 +27,8 @@ fn step(
     next: &mut [f32; 64],
     row: &mut [u8],
 )
-    requires crossed { ⌜ Crossed code half (now c0) (now c1) ⌝ }
-    requires room { ⌜ 2 * half ≤ length (now row) ⌝ }
-    ensures mets { λ _. ⌜ now (next .exit) ≡ newMets code (now (pm .entry)) a b ++ drop (2 ^ code .width) (now (next .entry)) ⌝ }
-    ensures froms { λ _. ⌜ now (row .exit) ≡ newFroms code (now (pm .entry)) a b ++ drop (2 ^ code .width) (now (row .entry)) ⌝ }
+    requires { ⌜ Steppable code half (now c0) (now c1) (now row) ⌝ }
+    ensures { λ _. ⌜ Selects code (now (pm .entry)) a b (lent next) (lent row) ⌝ }
 {
     // Lent as a slice, the array tells its length.
     let whole = &next[..];
@@ -83,12 +77,8 @@ pub fn forward(
     steps: usize,
     rows: &mut [u8],
 ) -> f32
-    requires shape { ⌜ Halved code half ⌝ }
-    requires pattern { ⌜ Rows keep ⌝ }
-    requires short { ⌜ steps ≤ 65536 ⌝ }
-    requires room { ⌜ steps * (2 * half) ≤ length (now rows) ⌝ }
-    ensures score { λ r. ⌜ r ≡ getD (mets code (keepOf keep) (now (readings .entry)) steps) 0 mark ⌝ }
-    ensures survivors { λ _. ⌜ now (rows .exit) ≡ filledRows code (keepOf keep) (now (readings .entry)) steps ++ drop (steps * (2 * half)) (now (rows .entry)) ⌝ }
+    requires { ⌜ Runnable code half keep steps (now rows) ⌝ }
+    ensures { λ r. ⌜ Runs code (keepOf keep) (2 * half) steps (now (readings .entry)) r (lent rows) ⌝ }
 {
     let sent = trellis::sent_by_even(code, half);
     let c0 = sent.c0;

@@ -1,14 +1,13 @@
 // The block decoder of readings: what it refuses, and which code and keep pattern it runs.
 ghost use mathlib.Core.Path.{_≡_};
 ghost use Prim.Native.Nat.{_-_, _*_, _^_, _≤_};
-ghost use lib.ListN.{length};
 ghost use Rattle.encoder.specs.Encode.{lengthOf};
 ghost use Rattle.refusal.specs.Answer.{Scores, wordSaid, refused};
 ghost use Rattle.refusal.specs.Lent.{lent};
 ghost use Rattle.refusal.specs.Limits.{most};
 ghost use Rattle.trellis.specs.Choice.{keepOf};
 ghost use Rattle.trellis.specs.Post.{Narrow};
-ghost use Rattle.readings.specs.Post.{UsedOf, Decodable, Finds, FindsAt};
+ghost use Rattle.readings.specs.Inner.{Decodable, Finds, DecodableAt, FindsAt, UsedOf};
 ghost use Rattle.readings.specs.Promise.{Decodes, DecodesBytes};
 ghost use Rattle.readings.specs.Said.{survivorsOf};
 
@@ -58,9 +57,7 @@ fn decode_at(
     out: &mut [u8],
     scratch: &mut [u8],
 ) -> f32
-    requires few { ⌜ info ≤ most ⌝ }
-    requires room { ⌜ info ≤ length (now out) ⌝ }
-    requires rows { ⌜ survivorsOf code info ≤ length (now scratch) ⌝ }
+    requires { ⌜ DecodableAt code info (now out) (now scratch) ⌝ }
     ensures { λ r. ⌜ FindsAt code rate info (now (readings .entry)) r (lent out) (lent scratch) ⌝ }
 {
     let chosen = trellis::conv_code(code);

@@ -20,9 +20,8 @@ trace-requires : tie.Need-trace-requires
 trace-requires c κs =
     let ran : tie.After-forward = search in
     let start : tie.Start = search in
-    let (scored, survivors) = ran .forward .ensures in
     word-traceable (start .args .code) (start .args .half) (keepOf (start .args .keep)) (start .args .readings .now)
-    (start .args .info) _ _ (start .pre .shape) survivors _ _
+    (start .args .info) _ _ (start .pre .shape) (ran .forward .ensures .survivors) _ _
     (omega (arith, pow-pos (start .args .code .width - 1), start .pre .shape .halved)) (start .pre .room)
 
 returns : tie.Need-returns
@@ -32,14 +31,14 @@ returns c =
     let ran : tie.After-forward = search in
     let start : tie.Start = search in
     let args = start .args in
-    let (scored, survivors) = ran .forward .ensures in
+    let survivors = ran .forward .ensures .survivors in
     let rest = drop (args .info) (args .out .now) in
     let way = traced wholes (args .code) (rowOf (2 * args .half) _) (stepsOf (args .code) (args .info)) 0 in
     let back : _ ≡ take (args .info) way ++ rest = traced-back .trace .ensures in
     let word =
     word-traced (args .code) (args .half) (keepOf (args .keep)) (args .readings .now) (args .info) _ _ (start .pre .shape)
     survivors 0 refl in
-    record { scored = scored; output = back ∙ ap (λ (l : List ℕ). l ++ rest) word; survivors = survivors }
+    record { scored = ran .forward .ensures .last; output = back ∙ ap (λ (l : List ℕ). l ++ rest) word; survivors = survivors }
 
 pub decode-spec : {M : Type 1} → statement M
 decode-spec =

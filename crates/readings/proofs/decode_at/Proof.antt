@@ -16,8 +16,7 @@ decode-requires c κs =
     let keep : tie.After-matrix = search in
     let code : tie.After-conv-code = search in
     let start : tie.Start = search in
-    let (few, (room, rows)) = start .pre in
-    decode-ready _ (start .args .info) (code .conv-code .ensures) (halved .half-of .ensures) _ (keep .matrix .ensures) few room rows
+    decode-ready _ (start .args .info) (code .conv-code .ensures) (halved .half-of .ensures) _ (keep .matrix .ensures) (start .pre)
 
 returns : tie.Need-returns
 returns c =
