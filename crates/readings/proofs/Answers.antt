@@ -15,7 +15,7 @@ use Rattle.f32s.specs.Single.{finite}
 use Rattle.refusal.specs.declared.Decoded.the-variants as decoded
 use Rattle.refusal.specs.Answer.{Said, accepted, refused, refuseWhen, Scores}
 use Rattle.refusal.specs.First.{firstBad}
-use Rattle.refusal.specs.Lent.{over, Lent, WritesBoth}
+use Rattle.refusal.specs.Lent.{over, Lent}
 use Rattle.refusal.specs.Limits.{most}
 use Rattle.refusal.proofs.FirstBad.{some-bad, none-bad, accepted-past-bad}
 use Rattle.refusal.proofs.Over.{both-accepted}
@@ -24,8 +24,9 @@ use Rattle.trellis.specs.Choice.{codes, codeOf, patterns, patternOf}
 use Rattle.trellis.specs.Codeword.{stepsOf}
 use Rattle.trellis.proofs.Chosen.{code-narrow, rate-pattern}
 use Rattle.trellis.proofs.Kept.{coded-le}
-use Rattle.readings.specs.Decode.{word, score, filledRows}
+use Rattle.readings.specs.Decode.{score}
 use Rattle.readings.specs.Inner.{UsedOf, FindsAt}
+use Rattle.readings.specs.Promise.{Decodes}
 use Rattle.readings.specs.Said.{mostReadings, survivorsOf, examined, decodeSaid}
 use Rattle.readings.proofs.Counts.{length-word, length-filled}
 use Rattle.readings.proofs.Selected.{code-width}
@@ -44,23 +45,23 @@ pub uses-needed : (need count coded : ℕ) → coded ≡ need → need ≤ mostR
 uses-needed need count coded e few h =
     record { short = λ g. absurd (omega (arith, e, h, g)); enough = λ g. e; few = omega (arith, e, few) }
 
-module _ (need used : ℕ) (readings : List Float) (is : UsedOf need (length readings) used) where
-  pub used-within : used ≤ length readings
-  used-within =
-      elim (decLt (length readings) need) [
-        | yes h ↦ omega (arith, is .short h)
-        | no h ↦ omega (arith, is .enough (omega arith), h)
-      ]
+pub used-within : {need count used : ℕ} → UsedOf need count used → used ≤ count
+used-within {need} {count} is =
+    elim (decLt count need) [
+      | yes h ↦ omega (arith, is .short h)
+      | no h ↦ omega (arith, is .enough (omega arith), h)
+    ]
 
-  pub used-taken : take used readings ≡ take need readings
+module _ (need used : ℕ) (readings : List Float) (is : UsedOf need (length readings) used) where
+  used-taken : take used readings ≡ take need readings
   used-taken =
       elim (decLt (length readings) need) [
         | yes h ↦ take-all used readings (omega (arith, is .short h)) ∙ sym (take-all need readings (omega arith))
         | no h ↦ ap (λ (n : ℕ). take n readings) (is .enough (omega arith))
       ]
 
-  pub used-counted : length (take need readings) ≡ used
-  used-counted = ap (λ (l : List Float). length l) (sym used-taken) ∙ length-take-le used readings used-within
+  used-counted : length (take need readings) ≡ used
+  used-counted = ap (λ (l : List Float). length l) (sym used-taken) ∙ length-take-le used readings (used-within is)
 
 -- ---- the refusals
 
@@ -143,10 +144,10 @@ module _ (code rate info : ℕ) (readings : List Float) (room scratch : ℕ) whe
 -- ---- what a decoding leaves is what it promises
 
 pub finds-decodes :
-    (code rate info : ℕ) (readings : List Float) {r : Float} {out scratch : Lent ℕ} {said : Said Float} →
-    said ≡ accepted (score (codeOf code) (patternOf rate) readings info) → FindsAt code rate info readings r out scratch →
-    WritesBoth (Scores (decoded.Word r)) said (word (codeOf code) (patternOf rate) readings info) out
-    (filledRows (codeOf code) (patternOf rate) readings (stepsOf (codeOf code) info)) scratch
+    (code rate info : ℕ) (readings : List Float) {r : Float} {out scratch : Lent ℕ} →
+    decodeSaid code rate info readings (length (out .given)) (length (scratch .given))
+    ≡ accepted (score (codeOf code) (patternOf rate) readings info) →
+    FindsAt code rate info readings r out scratch → Decodes (Scores (decoded.Word r)) code rate info readings out scratch
 unfolding over
 finds-decodes code rate info readings {r} {out} {scratch} accepts finds =
     let chosen = codeOf code in

@@ -1,5 +1,5 @@
--- No metric is a NaN, whatever the readings are: a NaN is greater than nothing, so it never replaces. And each is an f32, for it was rounded to one. So
--- the score has bits, 32 of them. Assumes nothing.
+-- No metric is a NaN, whatever the readings are: a NaN is greater than nothing, so it never replaces. And each is an f32, for
+-- it was rounded to one. So the score has bits, 32 of them. Assumes nothing.
 use mathlib.Core.Bool.{true, not}
 use mathlib.Core.List.{List}
 use mathlib.Core.Path.{_≡_, sym, subst}

@@ -1,5 +1,5 @@
--- The two correlations that a butterfly has: that of a pair of coded bits, and that of the pair with both turned. Stated over variables, so that a proof
--- of code only hands its facts over. Assumes nothing.
+-- The two correlations that a butterfly has: that of a pair of coded bits, and that of the pair with both turned. Stated over
+-- variables, so that a proof of code only hands its facts over. Assumes nothing.
 use mathlib.Core.Bool.{Bool, true, false, cond, not}
 use mathlib.Core.Path.{_≡_, refl, ap, ap₂, _∙_}
 use Prim.Native.Nat.{ℕ, zero, suc, _-_, _<_}

@@ -92,7 +92,7 @@ module _ {code : ConvCode} {half : ℕ} (shape : Halved code half) where
   two-halves : 2 * half ≡ 2 ^ code .width
   two-halves = omega (arith, states-two-halves code (shape .held .some), shape .halved)
 
-  filled-by : (p : Keep) (readings : List Float) → StateRows (2 * half) (froms code p readings)
+  pub filled-by : (p : Keep) (readings : List Float) → StateRows (2 * half) (froms code p readings)
   filled-by p readings = rows-filled code (shape .held .some) p readings (2 * half) two-halves
 
 pub forwarded-starts :

@@ -1,5 +1,5 @@
--- Surplus readings have no part in a decoding: cut off behind those that the steps read, the readings give the same answer and leave the same buffers.
--- Assumes nothing.
+-- Surplus readings have no part in a decoding: cut off behind those that the steps read, the readings give the same answer and
+-- leave the same buffers. Assumes nothing.
 use mathlib.Core.Bool.{Bool, true, false, not}
 use mathlib.Core.List.{List, _++_, map}
 use mathlib.Core.Path.{_≡_, refl, sym, ap, ap₂, _∙_}
@@ -41,7 +41,13 @@ filled-taken : (kept : Bool) (readings : List Float) (n i : ℕ) → i + one kep
 filled-taken false readings n i h = refl
 filled-taken true readings n i h =
     elim (decLt n (length readings)) [
-      | yes more ↦ rw (length-take-le n readings (omega arith), lt-ltb i n (omega arith), lt-ltb i (length readings) (omega arith), getD-take n readings i nan (omega arith))
+      | yes more ↦
+          rw (
+            length-take-le n readings (omega arith),
+            lt-ltb i n (omega arith),
+            lt-ltb i (length readings) (omega arith),
+            getD-take n readings i nan (omega arith),
+          )
       | no all ↦ ap (λ (l : List Float). filled true l i) (take-all n readings (omega arith))
     ]
 
@@ -123,7 +129,8 @@ module _ (code rate info : ℕ) (readings : List Float) (room scratch n : ℕ) (
   -- so what a call would write has to be the same up to the limit only
   surplus-leaves :
       (new other old : List ℕ) → (info ≤ most → new ≡ other) →
-      leaves (decodeSaid code rate info (take n readings) room scratch) new old ≡ leaves (decodeSaid code rate info readings room scratch) other old
+      leaves (decodeSaid code rate info (take n readings) room scratch) new old
+      ≡ leaves (decodeSaid code rate info readings room scratch) other old
   surplus-leaves new other old same =
       rw surplus-said
       (elim (decLt most info) [
@@ -140,10 +147,13 @@ module _ (code rate info : ℕ) (readings : List Float) (room scratch n : ℕ) (
 
   pub surplus-scratch :
       (old : List ℕ) →
-      leaves (decodeSaid code rate info (take n readings) room scratch) (filledRows (codeOf code) (patternOf rate) (take n readings) (stepsOf (codeOf code) info)) old
-      ≡ leaves (decodeSaid code rate info readings room scratch) (filledRows (codeOf code) (patternOf rate) readings (stepsOf (codeOf code) info)) old
+      leaves (decodeSaid code rate info (take n readings) room scratch)
+      (filledRows (codeOf code) (patternOf rate) (take n readings) (stepsOf (codeOf code) info)) old
+      ≡ leaves (decodeSaid code rate info readings room scratch)
+      (filledRows (codeOf code) (patternOf rate) readings (stepsOf (codeOf code) info)) old
   surplus-scratch old =
-      surplus-leaves _ _ old (λ h. rows-taken (codeOf code) (patternOf rate) (rate-pattern rate) readings n (stepsOf (codeOf code) info) (within h))
+      let steps = stepsOf (codeOf code) info in
+      surplus-leaves _ _ old (λ h. rows-taken (codeOf code) (patternOf rate) (rate-pattern rate) readings n steps (within h))
 
 -- ---- as they come from bytes, to a list with room for those that may be used
 

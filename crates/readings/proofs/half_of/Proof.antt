@@ -9,12 +9,6 @@ use lib.Pow.{shl-exact}
 use Rattle.readings.proofs.half_of.Statement.{statement}
 use Rattle.readings.proofs.half_of.Tie as tie
 
-sub-result : tie.Need-sub-result
-sub-result c = search needs
-
-shl-result : tie.Need-shl-result
-shl-result c = search needs
-
 returns : tie.Need-returns
 returns c =
     let width = c .before .args .code .width in
@@ -22,4 +16,4 @@ returns c =
     whole ∙ one-mul (2 ^ (width - 1))
 
 pub half-of-spec : {M : Type 1} → statement M
-half-of-spec = tie.close (tie.spec sub-result shl-result returns)
+half-of-spec = tie.close (tie.spec (search needs) (search needs) returns)

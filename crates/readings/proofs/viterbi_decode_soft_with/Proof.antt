@@ -28,14 +28,10 @@ returns-5 c =
     both-refused (no-scratch _ _ _ _ _ _ (omega arith) (omega arith) (omega arith) (omega arith) (omega arith))
     (c .no-word5 .ensures) refl refl
 
--- from a later place back to the call's start
-abbrev start : tie.After-used-of → tie.Start
-start c = search
-
 slice-aggregate-first-bad : tie.Need-slice-aggregate-first-bad
 slice-aggregate-first-bad c =
     let counted : tie.After-used-of = search in
-    sym (length-take-le _ _ (used-within _ _ (start counted .args .readings .now) (counted .used-of .ensures)))
+    sym (length-take-le _ _ (used-within (counted .used-of .ensures)))
 
 returns-6 : tie.Need-returns-6
 returns-6 c =
@@ -51,8 +47,7 @@ returns-7 c =
     let ran : tie.After-decode-at = search in
     let examined : tie.After-first-bad = search in
     let counted : tie.After-used-of = search in
-    let args = start counted .args in
-    finds-decodes (args .code) (args .rate) (args .info) (args .readings .now)
+    finds-decodes _ _ _ _
     (good-readings _ _ _ _ _ _ (omega (arith, counted)) (omega (arith, counted)) (omega (arith, counted))
     (omega (arith, counted)) (omega (arith, counted)) (counted .used-of .ensures) (examined .first-bad .ensures) (omega arith))
     (ran .decode-at .ensures)
