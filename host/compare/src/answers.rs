@@ -22,13 +22,20 @@ pub fn same(lines: &[Line]) -> Outcome {
     Ok(lines.len() as u64)
 }
 
-/// Each line is a case whose wanted answer was made wrong, and every one must be found so.
-pub fn damage_is_seen(lines: &[Line]) -> Outcome {
+/// Each wrong answer to a line's call is a case, and every one must be found so.
+pub fn damage_is_seen(lines: &[Line], wrong: impl Fn(&Line) -> Vec<Line>) -> Outcome {
     let got = answers_to(lines.iter().map(|line| line.call.as_str()))?;
-    match lines.iter().zip(&got).find(|(line, got)| answered(line, got).is_ok()) {
-        None => Ok(lines.len() as u64),
-        Some((line, _)) => Err(format!("  not seen: {}\n  {}", line.call, line.answer)),
+    let mut cases = 0;
+    for (line, got) in lines.iter().zip(&got) {
+        answered(line, got)?;
+        for wrong in wrong(line) {
+            cases += 1;
+            if answered(&wrong, got).is_ok() {
+                return Err(format!("  not seen: {}\n  {}", wrong.call, wrong.answer));
+            }
+        }
     }
+    Ok(cases)
 }
 
 /// Whether a call was answered as is wanted; else the call, the answer wanted and the answer got.

@@ -15,10 +15,9 @@ use list::varicode::{self, ReaderLine, WriterLine, lookup_line, word_line};
 const COUNT: usize = 40;
 
 pub fn run(groups: &mut Groups, random: &mut Random) {
-    let damaged: Vec<Line> = lines(random).iter().flat_map(damages).collect();
     groups.report(
         "the comparison, which must see each wanted answer that is made wrong: every digit, a field more, a field less",
-        damage_is_seen(&damaged),
+        damage_is_seen(&lines(random), damages),
     );
 }
 
