@@ -1,7 +1,7 @@
 -- A stream, symbol by symbol: the state after i of them, and their bits at the front of the output. Assumes nothing.
 use mathlib.Core.List.{List, [], _∷_, _++_}
 use mathlib.Core.Path.{_≡_, refl, sym, ap, _∙_}
-use Prim.Native.Nat.{ℕ, suc, _+_, _*_, _/_, _≤_, _<_}
+use Prim.Native.Nat.{ℕ, _+_, _*_, _/_, _≤_, _<_}
 use native.Mathlib.Numerals.{add-one}
 use native.Mathlib.Omega.{arith}
 use borrow.Author.Tests.{lt-ltb, le-ltb}
@@ -10,14 +10,15 @@ use lib.Ieee.{Float, nan}
 use lib.ListN.{length, take, getD, set, length-append}
 use lib.Seq.{length-take-le}
 use Rattle.refusal.specs.Answer.{Said, accepted, refused}
-use Rattle.refusal.specs.Lent.{over, leaves}
+use Rattle.refusal.specs.Lent.{over}
+use Rattle.refusal.proofs.Filling.{Written}
+use Rattle.refusal.proofs.Told.{refused-when, passed-when}
 use Rattle.refusal.proofs.Over.{over-kept, over-set, over-more, length-over}
 use Rattle.streaming.specs.declared.Heard.{Heard}
 use Rattle.streaming.specs.declared.Heard.the-variants as heard
 use Rattle.streaming.specs.Held.{lag, heardSaid}
 use Rattle.streaming.specs.Said.{feedSaid, feedLeaves}
 use Rattle.streaming.specs.Stream.{State}
-use Rattle.streaming.proofs.Draining.{Written, refuses-when, accepts-when}
 use Rattle.trellis.specs.Choice.{k5}
 use Rattle.bench_calls.specs.Stream.{bitsIn, heldAfter, bitsAfter, streamSaid}
 
@@ -73,19 +74,16 @@ module _ (soft : List Float) (i : ℕ) where
             ∙ ap (λ (l : List ℕ). over l out₀) more;
       }
 
-pub written-within : {out₀ bits out : List ℕ} {i written count : ℕ} → Written out₀ bits i out written → i < count → count ≤ length out₀ → written < length out
-written-within w h k = omega (arith, w .few, w .sized)
-
 -- ---- the answers
 
 module _ (soft : List Float) (room : ℕ) where
   pub stream-refused : room < length soft / 2 → refused 4 0 ≡ streamSaid soft room
   unfolding streamSaid
-  stream-refused h = refuses-when (ltb room (length soft / 2)) 4 _ (lt-ltb room (length soft / 2) h)
+  stream-refused h = refused-when (ltb room (length soft / 2)) 4 _ (lt-ltb room (length soft / 2) h)
 
   pub stream-accepted : length soft / 2 ≤ room → accepted (length (bitsAfter soft (length soft / 2))) ≡ streamSaid soft room
   unfolding streamSaid
-  stream-accepted h = accepts-when (ltb room (length soft / 2)) 4 _ (le-ltb room (length soft / 2) h)
+  stream-accepted h = passed-when (ltb room (length soft / 2)) 4 _ (le-ltb room (length soft / 2) h)
 
 pub none-held : (soft : List Float) → Rattle.streaming.specs.Stream.fresh k5 lag ≡ heldAfter soft 0
 unfolding heldAfter

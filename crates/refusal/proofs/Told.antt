@@ -3,7 +3,7 @@
 use mathlib.Core.Bool.{Bool, true, false}
 use mathlib.Core.Path.{_≡_, sym, ap, ap₂, _∙_}
 use Prim.Native.Nat.{ℕ}
-use Rattle.refusal.specs.Answer.{Said, accepted, refuseWhen, countSaid, wordSaid, doneSaid, Counts, Numbers, Scores, ScoreNumbers}
+use Rattle.refusal.specs.Answer.{Said, accepted, refused, refuseWhen, countSaid, wordSaid, doneSaid, Counts, Numbers, Scores, ScoreNumbers}
 use Rattle.refusal.specs.declared.Refusal.{Refusal}
 use Rattle.refusal.specs.declared.Counted.{Counted}
 use Rattle.refusal.specs.declared.Counted.the-variants as counted
@@ -61,3 +61,12 @@ pub accepted-past :
     refuseWhen test number rest ≡ accepted a → rest ≡ accepted a
 accepted-past true number rest a e = cc
 accepted-past false number rest a e = e
+
+-- ---- what a test says
+
+pub refused-when :
+    {A : Type 0} (test : Bool) (number : ℕ) (rest : Said A) → test ≡ true → refused number 0 ≡ refuseWhen test number rest
+refused-when test number rest e = rw e
+
+pub passed-when : {A : Type 0} (test : Bool) (number : ℕ) (rest : Said A) → test ≡ false → rest ≡ refuseWhen test number rest
+passed-when test number rest e = rw e

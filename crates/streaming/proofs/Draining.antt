@@ -1,20 +1,19 @@
 -- A flush, symbol by symbol: the state after i of them, and their bits at the front of the output. Assumes nothing.
-use mathlib.Core.Bool.{Bool, true, false}
 use mathlib.Core.List.{List, [], _∷_, _++_, append-nil}
 use mathlib.Core.Path.{_≡_, refl, sym, ap, _∙_}
 use Prim.Native.Nat.{ℕ, suc, _+_, _≤_, _<_}
 use native.Mathlib.Numerals.{add-one}
-use native.Mathlib.Omega.{arith}
 use borrow.Author.Tests.{lt-ltb, le-ltb}
 use lib.Dec.{ltb}
-use lib.ListN.{length, take, set, length-append, length-set}
+use lib.ListN.{length}
 use Rattle.best_path.proofs.Candidates.{where-true, where-false}
 use Rattle.f32s.specs.Single.{zero32}
 use Rattle.refusal.specs.declared.Counted.{Counted}
 use Rattle.refusal.specs.declared.Counted.the-variants as counted
-use Rattle.refusal.specs.Answer.{Said, accepted, refused, refuseWhen, countSaid}
-use Rattle.refusal.specs.Lent.{over, leaves}
-use Rattle.refusal.proofs.Over.{over-none, over-set, over-more}
+use Rattle.refusal.specs.Answer.{Said, accepted, refused, countSaid}
+use Rattle.refusal.specs.Lent.{leaves}
+use Rattle.refusal.proofs.Filling.{Written}
+use Rattle.refusal.proofs.Told.{refused-when, passed-when}
 use Rattle.trellis.specs.Choice.{k5}
 use Rattle.trellis.specs.declared.ConvCode.{ConvCode}
 use Rattle.streaming.specs.declared.Front.{Front}
@@ -54,59 +53,12 @@ module _ (st : State) where
     pub gives-one-more : (b : ℕ) → lag < next .count → b ≡ bitBehind k5 lag next → flushGives k5 lag st i ++ b ∷ [] ≡ flushGives k5 lag st (i + 1)
     gives-one-more b h e = more-given i next (b ∷ []) of-next (one-given next b h e)
 
--- ---- the output
-
--- at most i bits at the front of what was lent
-pub record Written (out₀ bits : List ℕ) (i : ℕ) (out : List ℕ) (written : ℕ) : Type 0 where
-  pub sized : length out ≡ length out₀
-  pub counted : written ≡ length bits
-  pub few : written ≤ i
-  pub filled : out ≡ over bits out₀
-
-pub none-written : (out₀ bits : List ℕ) → [] ≡ bits → Written out₀ bits 0 out₀ 0
-none-written out₀ bits e =
-    record { sized = refl; counted = ap length e; few = omega arith; filled = over-none out₀ ∙ ap (λ (l : List ℕ). over l out₀) e }
-
-module _ (out₀ bits more : List ℕ) (i : ℕ) (out : List ℕ) (written : ℕ) (so-far : Written out₀ bits i out written) (new : List ℕ) (count : ℕ) where
-  pub as-before : bits ≡ more → new ≡ out → count ≡ written → Written out₀ more (i + 1) new count
-  as-before e f g =
-      record {
-        sized = ap length f ∙ so-far .sized;
-        counted = g ∙ so-far .counted ∙ ap length e;
-        few = omega (arith, g, so-far .few);
-        filled = f ∙ so-far .filled ∙ ap (λ (l : List ℕ). over l out₀) e;
-      }
-
-  -- a bit put behind those that stand already
-  pub one-more : (b : ℕ) → written < length out → bits ++ b ∷ [] ≡ more → new ≡ set out written b → count ≡ written + 1 → Written out₀ more (i + 1) new count
-  one-more b inside e f g =
-      record {
-        sized = ap length f ∙ length-set out written b ∙ so-far .sized;
-        counted = g ∙ ap (λ (n : ℕ). n + 1) (so-far .counted) ∙ sym (length-append bits (b ∷ [])) ∙ ap length e;
-        few = omega (arith, g, so-far .few);
-        filled =
-            f
-            ∙ over-set out written b inside
-            ∙ ap (λ (l : List ℕ). over (take written l ++ b ∷ []) l) (so-far .filled)
-            ∙ over-more bits (b ∷ []) out₀ written (so-far .counted)
-            ∙ ap (λ (l : List ℕ). over l out₀) e;
-      }
-
-pub written-inside : {out₀ bits out : List ℕ} {i written : ℕ} → Written out₀ bits i out written → i < lag → lag ≤ length out₀ → written < length out
-written-inside w h k = omega (arith, w .few, w .sized)
-
 -- ---- the answers
-
-pub refuses-when : {A : Type 0} (test : Bool) (number : ℕ) (rest : Said A) → test ≡ true → refused number 0 ≡ refuseWhen test number rest
-refuses-when test number rest e = rw e
-
-pub accepts-when : {A : Type 0} (test : Bool) (number : ℕ) (rest : Said A) → test ≡ false → rest ≡ refuseWhen test number rest
-accepts-when test number rest e = rw e
 
 module _ (code : ConvCode) (late : ℕ) (st : State) (room : ℕ) where
   refused-said : room < late → refused 4 0 ≡ flushSaid code late st room
   unfolding flushSaid
-  refused-said h = refuses-when (ltb room late) 4 _ (lt-ltb room late h)
+  refused-said h = refused-when (ltb room late) 4 _ (lt-ltb room late h)
 
   refused-state : room < late → st ≡ flushLeaves code late st room
   unfolding flushLeaves
@@ -114,7 +66,7 @@ module _ (code : ConvCode) (late : ℕ) (st : State) (room : ℕ) where
 
   accepted-said : late ≤ room → accepted (length (flushGives code late st late)) ≡ flushSaid code late st room
   unfolding flushSaid
-  accepted-said h = accepts-when (ltb room late) 4 _ (le-ltb room late h)
+  accepted-said h = passed-when (ltb room late) 4 _ (le-ltb room late h)
 
   accepted-state : late ≤ room → flushed code late st late ≡ flushLeaves code late st room
   unfolding flushLeaves

@@ -8,9 +8,9 @@ use lib.ListN.{length}
 use Rattle.refusal.specs.Answer.{Said, accepted}
 use Rattle.refusal.specs.Lent.{leaves}
 use Rattle.streaming.specs.Held.{held}
-use Rattle.streaming.proofs.Draining.{Written, none-written}
+use Rattle.refusal.proofs.Filling.{Written, none-written, written-inside}
 use Rattle.bench_calls.specs.Stream.{heldAfter, bitsAfter, streamSaid}
-use Rattle.bench_calls.proofs.Streamed.{held-next, written-within, one-streamed, stream-refused, stream-accepted, none-held, no-bits}
+use Rattle.bench_calls.proofs.Streamed.{held-next, one-streamed, stream-refused, stream-accepted, none-held, no-bits}
 use Rattle.bench_calls.proofs.stream.Statement.{statement}
 use Rattle.bench_calls.proofs.stream.Tie as tie
 
@@ -74,7 +74,7 @@ loop-again c =
     let fed = c .before .before .before .before .before .feed-symbol .ensures in (
       omega arith,
       held-next (args .soft .now) (loop .i) _ _ (loop .inv .1) (fed .state),
-      one-streamed (args .soft .now) (loop .i) (args .out .now) (loop .out) _ (loop .written) _ _ (c .before .before .before .before .before .feed-symbol .result .answer) (loop .inv .2) (written-within {count = length (args .soft .now) / 2} (loop .inv .2) (omega arith) (omega arith)) (loop .inv .1) (fed .answer) (c .before .before .put-bit .ensures .0) (c .before .before .put-bit .ensures .1),
+      one-streamed (args .soft .now) (loop .i) (args .out .now) (loop .out) _ (loop .written) _ _ (c .before .before .before .before .before .feed-symbol .result .answer) (loop .inv .2) (written-inside {most = length (args .soft .now) / 2} (loop .inv .2) (omega arith) (omega arith)) (loop .inv .1) (fed .answer) (c .before .before .put-bit .ensures .0) (c .before .before .put-bit .ensures .1),
     )
 
 same-length : tie.Need-same-length Inv-loop μ-loop

@@ -1,10 +1,10 @@
 -- `streaming::flush_lent`. The invariant: after i turns the state is what i symbols (0, 0) make of it, and their bits stand at the front of out. Assumes nothing.
 use mathlib.Core.Logic.{⊎-elim}
 use mathlib.Core.Path.{_≡_, ap, subst, _∙_}
-use Prim.Native.Nat.{ℕ, _+_, _-_, _≤_}
+use Prim.Native.Nat.{ℕ, _-_, _≤_}
 use native.Mathlib.Omega.{arith}
-use borrow.Author.Needs.{needs}
-use Rattle.streaming.proofs.Draining.{Written, none-fed, nothing-given, one-fed, gives-no-more, gives-one-more, none-written, as-before, one-more, written-inside, room-refused, all-drained}
+use Rattle.refusal.proofs.Filling.{Written, none-written, as-before, one-more, written-inside}
+use Rattle.streaming.proofs.Draining.{none-fed, nothing-given, one-fed, gives-no-more, gives-one-more, room-refused, all-drained}
 use Rattle.trellis.specs.Choice.{k5}
 use Rattle.streaming.specs.Flush.{flushed, flushGives}
 use Rattle.streaming.specs.Held.{lag, standing}
@@ -60,7 +60,7 @@ loop-again c =
       omega arith,
       fed-next,
       ⊎-elim
-          (λ w. one-more (args .out .now) _ _ (loop .counter) (loop .out) (loop .written) (loop .inv .2) _ _ _ (written-inside (loop .inv .2) (omega arith) (omega arith)) (gives-one-more start (loop .counter) next fed-next _ (omega (arith, w .0 .taken)) (w .2 .ensures)) (w .3) (w .4))
+          (λ w. one-more (args .out .now) _ _ (loop .counter) (loop .out) (loop .written) (loop .inv .2) _ _ _ (written-inside {most = lag} (loop .inv .2) (omega arith) (omega arith)) (gives-one-more start (loop .counter) next fed-next _ (omega (arith, w .0 .taken)) (w .2 .ensures)) (w .3) (w .4))
           (λ w. as-before (args .out .now) _ _ (loop .counter) (loop .out) (loop .written) (loop .inv .2) _ _ (gives-no-more start (loop .counter) next fed-next (omega (arith, w .0 .left))) (w .1) (w .2))
           (c .if2 .came),
     )
