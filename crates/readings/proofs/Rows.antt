@@ -2,45 +2,74 @@
 -- Assumes nothing.
 use mathlib.Core.List.{List, _++_}
 use mathlib.Core.Path.{_≡_, refl, ap, _∙_}
-use Prim.Native.Nat.{ℕ, _*_, _≤_, _<_}
+use Prim.Native.Nat.{ℕ, _-_, _*_, _<_}
 use native.Mathlib.Omega.{arith}
 use lib.Ieee.{Float}
-use lib.ListN.{take}
+use lib.ListN.{length, take, drop}
+use lib.Pow.{pow-pos}
 use Rattle.best_path.specs.Path.{wholes}
 use Rattle.best_path.specs.Rows.{rowOf, Traceable}
 use Rattle.best_path.specs.Run.{traced}
 use Rattle.best_path.proofs.Rows.{StateRows, left-traceable, left-way-back}
 use Rattle.trellis.specs.declared.ConvCode.{ConvCode}
+use Rattle.trellis.specs.declared.KeepPattern.{KeepPattern}
+use Rattle.trellis.specs.Choice.{keepOf}
 use Rattle.trellis.specs.Codeword.{stepsOf}
 use Rattle.trellis.specs.Keep.{Keep}
 use Rattle.trellis.specs.Post.{Halved}
 use Rattle.branches.specs.Largest.{largest}
-use Rattle.readings.specs.Decode.{froms, word, filledRows}
+use Rattle.readings.specs.Decode.{froms, word, score}
+use Rattle.readings.specs.Inner.{Runs, Decodable, Finds}
 use Rattle.readings.proofs.Steps.{filled-by}
 
+-- there is a state 0, and a state 1
+pub some-states : {code : ConvCode} {half : ℕ} → Halved code half → 1 < 2 * half
+some-states {code} shape = omega (arith, pow-pos (code .width - 1), shape .halved)
+
+-- what a decoding is given, and what its steps leave
 module _
-    (code : ConvCode) (half : ℕ) (p : Keep) (readings : List Float) (info : ℕ) (list rest : List ℕ) (shape : Halved code half)
-    (left : list ≡ filledRows code p readings (stepsOf code info) ++ rest) where
-  abbrev filled : StateRows (2 * half) (froms code p readings)
-  filled = filled-by shape p readings
+    {code : ConvCode} {half : ℕ} {keep : KeepPattern} {info : ℕ} {out scratch : List ℕ}
+    (ready : Decodable code half keep info out scratch) {readings : List Float} {r : Float} {left : List ℕ}
+    (ran : Runs code (keepOf keep) (2 * half) (stepsOf code info) readings r (record { given = scratch; left = left })) where
+  abbrev p : Keep
+  p = keepOf keep
 
-  pub word-traceable : (last room : ℕ) → last < 2 * half → info ≤ room → Traceable code half list (stepsOf code info) last info room
-  word-traceable last room state fits =
-      left-traceable filled code half (stepsOf code info) list rest refl (shape .halved) (shape .few) left last info room
-      state (omega arith) fits
+  abbrev steps : ℕ
+  steps = stepsOf code info
 
-  -- from the same state the rows spell what the definition's survivors do
+  abbrev shape : Halved code half
+  shape = ready .shape
+
+  abbrev rows : StateRows (2 * half) (froms code p readings)
+  rows = filled-by shape p readings
+
+  pub way-walkable : {last : ℕ} → last < 2 * half → Traceable code half left steps last info (length out)
+  way-walkable {last} state =
+      left-traceable rows code half steps left _ refl (shape .halved) (shape .few) (ran .survivors) last info (length out)
+      state (omega arith) (ready .room)
+
+  -- from state 0 the rows spell what the definition's survivors do
   spelled :
-      (last s : ℕ) → last ≡ s →
-      take info (traced wholes code (rowOf (2 * half) list) (stepsOf code info) last)
-      ≡ take info (traced largest code (froms code p readings) (stepsOf code info) s)
-  spelled last s same =
+      (s : ℕ) → 0 ≡ s →
+      take info (traced wholes code (rowOf (2 * half) left) steps 0)
+      ≡ take info (traced largest code (froms code p readings) steps s)
+  spelled s same =
       ap (take info)
-      (left-way-back filled code half (stepsOf code info) list rest refl (shape .halved) (shape .few) left largest last
-      ∙ ap (traced largest code (froms code p readings) (stepsOf code info)) same)
+      (left-way-back rows code half steps left _ refl (shape .halved) (shape .few) (ran .survivors) largest 0
+      ∙ ap (traced largest code (froms code p readings) steps) same)
 
-  pub word-traced :
-      (last : ℕ) → last ≡ 0 →
-      take info (traced wholes code (rowOf (2 * half) list) (stepsOf code info) last) ≡ word code p readings info
+  word-spelled : take info (traced wholes code (rowOf (2 * half) left) steps 0) ≡ word code p readings info
   unfolding word
-  word-traced last zeroth = spelled last _ (omega (arith, zeroth))
+  word-spelled = spelled _ (omega arith)
+
+  -- so where the way back from state 0 is written to the output, word, score and survivors are found
+  pub way-finds :
+      {new : List ℕ} → new ≡ take info (traced wholes code (rowOf (2 * half) left) steps 0) ++ drop info out →
+      Finds code p (2 * half) info readings r (record { given = out; left = new }) (record { given = scratch; left = left })
+  unfolding score
+  way-finds e =
+      record {
+        scored = ran .last;
+        output = e ∙ ap (λ (l : List ℕ). l ++ drop info out) word-spelled;
+        survivors = ran .survivors;
+      }

@@ -207,13 +207,13 @@ module _
             ∙ ap (codedLength p) (sym (add-one t))
 
         pub forwarded-goes-on :
-            {next next' : List Float} {part : List ℕ} {column' : ℕ} →
+            {next next' : List Float} {part : List ℕ} {column' to' : ℕ} →
             Selects code pm a b (record { given = next; left = next' })
             (record { given = take (length rows - to) (drop to rows); left = part }) →
-            column' ≡ (column + 1) % keep .period →
+            to' ≡ to + 2 * half → column' ≡ (column + 1) % keep .period →
             Forwarded code half keep readings steps old c0 c1
-            (take to rows ++ (part ++ drop (length rows - to) (drop to rows))) next' column' end (to + 2 * half) (t + 1)
-        forwarded-goes-on {next} {next'} {part} {column'} selects counted' =
+            (take to rows ++ (part ++ drop (length rows - to) (drop to rows))) next' column' end to' (t + 1)
+        forwarded-goes-on {next} {next'} {part} {column'} selects place' counted' =
             let rest = take (length rows - to) (drop to rows) in
             let froms-row = new-froms code some p readings pm a b t (now .agrees) reads-first reads-second in
             let row : part ≡ froms code p readings t ++ drop (2 * half) rest =
@@ -224,7 +224,7 @@ module _
               turns = omega arith;
               counted = column-next (keep .period) t column column' (now .counted) counted';
               behind = both-read;
-              place = row-next to t (2 * half) (now .place);
+              place = place' ∙ row-next to t (2 * half) (now .place);
               agrees =
                   agrees-next code some p readings pm a b t (now .agrees) reads-first reads-second next' _ (selects .mets);
               survivors = rows-put (filled-by shape p readings) old rows part to t (now .survivors) (now .place) row;

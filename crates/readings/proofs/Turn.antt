@@ -114,17 +114,19 @@ module _
             s (now .counter) w winged
 
       pub paired-goes-on :
-          Paired half c0 c1 a b pm old old-row (set (set next n (w .low .met)) (n + half) (w .high .met))
-          (set (set row n (w .low .from)) (n + half) (w .high .from)) (s + 2) (n + 1)
-      paired-goes-on =
+          {next' : List Float} {row' : List ℕ} →
+          next' ≡ set (set next n (w .low .met)) (n + half) (w .high .met) →
+          row' ≡ set (set row n (w .low .from)) (n + half) (w .high .from) →
+          Paired half c0 c1 a b pm old old-row next' row' (s + 2) (n + 1)
+      paired-goes-on e f =
           record {
             turns = omega arith;
             counter = omega (arith, now .counter);
-            size = simp length-set (now .size);
+            size = rw f (simp length-set (now .size));
             mets = λ code crossed.
                 let (low, high) = turned code crossed in
-                stored-turn half (metAt code pm a b) old n next _ _ (now .mets code crossed) (ap met-of low) (ap met-of high);
+                e ∙ stored-turn half (metAt code pm a b) old n next _ _ (now .mets code crossed) (ap met-of low) (ap met-of high);
             froms = λ code crossed.
                 let (low, high) = turned code crossed in
-                stored-turn half (fromAt code pm a b) old-row n row _ _ (now .froms code crossed) (ap from-of low) (ap from-of high);
+                f ∙ stored-turn half (fromAt code pm a b) old-row n row _ _ (now .froms code crossed) (ap from-of low) (ap from-of high);
           }

@@ -40,7 +40,7 @@ returns-6 c =
     both-refused
     (bad-reading _ _ _ _ _ _ (omega arith) (omega arith) (omega arith) (omega arith) (omega arith)
     (counted .used-of .ensures) (examined .first-bad .ensures) (omega arith))
-    (c .no-word6 .ensures) refl refl
+    (c .no-word6 .ensures) (search) (search)
 
 returns-7 : tie.Need-returns-7
 returns-7 c =

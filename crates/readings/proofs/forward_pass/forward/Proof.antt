@@ -131,7 +131,7 @@ loop-again c =
     let turn : Turn = search in
     let head : Head = search in
     forwarded-goes-on (head .loop .inv) (turn .loop-test .taken) (first .read .ensures) (middle .after .ensures)
-    (second .read2 .ensures) (end .after2 .ensures) (selected .step .ensures) (c .next-column .ensures)
+    (second .read2 .ensures) (end .after2 .ensures) (selected .step .ensures) (omega arith) (c .next-column .ensures)
 
 same-length : tie.Need-same-length Inv-loop μ-loop
 same-length c = rows-sized (c .before .loop .inv)

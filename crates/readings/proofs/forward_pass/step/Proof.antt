@@ -27,7 +27,7 @@ loop-again c =
     let turn : tie.In-loop Inv-loop μ-loop = search in
     let head : tie.At-loop Inv-loop μ-loop = search in
     paired-goes-on (head .loop .inv) (turn .loop-test .taken) (first .signed .ensures) (second .signed2 .ensures)
-    (pair .butterfly .ensures)
+    (pair .butterfly .ensures) (search) (search)
 
 same-length : tie.Need-same-length Inv-loop μ-loop
 same-length c = c .before .loop .inv .size
