@@ -9,26 +9,26 @@ use borrow.Author.Tests.{not-true, not-false}
 use lib.ListN.{length, take, drop}
 use lib.Seq.{length-take-le}
 use Rattle.line.specs.Line.{shaped, infoIn}
-use Rattle.line.proofs.Decoding.{shaped-long, unshaped-said, output-refused, Called, asks-count, refused-output, info-few, word-output}
+use Rattle.line.proofs.Decoding.{shaped-long, unshaped-said, output-refused}
+use Rattle.line.proofs.Decoding.{Called, asks-count, refused-output, info-few, word-output}
 use Rattle.line.proofs.Written.{rest-taken}
 use Rattle.line.proofs.answer.Statement.{statement}
 use Rattle.line.proofs.answer.Tie as tie
 
-is-shaped-requires : tie.Need-is-shaped-requires
-is-shaped-requires c κs = search needs
-
-refused-line-requires : tie.Need-refused-line-requires
-refused-line-requires c κs = search needs
-
 returns : tie.Need-returns
 returns c =
-    let input = c .before .before .before .before .args .input .now in
-    rw (output-refused input 10 0 (unshaped-said input (sym (c .before .before .is-shaped .ensures) ∙ not-true _ (c .before .if1 .taken)))) (c .refused-line .ensures)
+    let tested : tie.After-is-shaped = search in
+    let start : tie.Start = search in
+    let unshaped = sym (tested .is-shaped .ensures) ∙ not-true _ (c .before .if1 .taken) in
+    rw (output-refused (start .args .input .now) 10 0 (unshaped-said (start .args .input .now) unshaped)) (c .refused-line .ensures)
 
 -- the input is shaped
 module _ (c : tie.Else1) where
+  abbrev start : tie.Start
+  start = search
+
   abbrev input : List ℕ
-  input = c .before .before .before .args .input .now
+  input = start .args .input .now
 
   is : shaped (length input) ≡ true
   is = sym (c .before .is-shaped .ensures) ∙ not-false _ (c .if1 .left)
@@ -55,67 +55,59 @@ add-info : tie.Need-add-info
 add-info c = omega (arith, c .shared-slice-known3 .given 2, c .shared-slice-known3 .given 3)
 
 shared-slice-read-viterbi-decode-bytes : tie.Need-shared-slice-read-viterbi-decode-bytes
-shared-slice-read-viterbi-decode-bytes c = omega (arith, long (c .before .before .before))
+shared-slice-read-viterbi-decode-bytes c =
+    let is-shaped : tie.Else1 = search in
+    omega (arith, long is-shaped)
 
 sub-viterbi-decode-bytes : tie.Need-sub-viterbi-decode-bytes
-sub-viterbi-decode-bytes c = omega (arith, long (c .before .before .before))
+sub-viterbi-decode-bytes c =
+    let is-shaped : tie.Else1 = search in
+    omega (arith, long is-shaped)
 
 part-viterbi-decode-bytes-start : tie.Need-part-viterbi-decode-bytes-start
-part-viterbi-decode-bytes-start c = omega (arith, long (c .before .before .before))
-
-part-viterbi-decode-bytes-end : tie.Need-part-viterbi-decode-bytes-end
-part-viterbi-decode-bytes-end c = search needs
-
-asked-requires : tie.Need-asked-requires
-asked-requires c κs = search needs
+part-viterbi-decode-bytes-start c =
+    let is-shaped : tie.Else1 = search in
+    omega (arith, long is-shaped)
 
 shared-slice-read-viterbi-decode-bytes-2 : tie.Need-shared-slice-read-viterbi-decode-bytes-2
-shared-slice-read-viterbi-decode-bytes-2 c = omega (arith, long (c .before .before .before .before .before .before))
-
-slice-aggregate-viterbi-decode-bytes : tie.Need-slice-aggregate-viterbi-decode-bytes
-slice-aggregate-viterbi-decode-bytes c = search needs
-
-slice-aggregate-viterbi-decode-bytes-2 : tie.Need-slice-aggregate-viterbi-decode-bytes-2
-slice-aggregate-viterbi-decode-bytes-2 c = search needs
-
-viterbi-decode-bytes-requires : tie.Need-viterbi-decode-bytes-requires
-viterbi-decode-bytes-requires c κs = search needs
-
-enum-known-decoded : tie.Need-enum-known-decoded
-enum-known-decoded c = search needs
-
-enum-told : tie.Need-enum-told
-enum-told c = search needs
-
-refusal-in-requires : tie.Need-refusal-in-requires
-refusal-in-requires c κs = search needs
-
-refused-line-requires-2 : tie.Need-refused-line-requires-2
-refused-line-requires-2 c κs = search needs
+shared-slice-read-viterbi-decode-bytes-2 c =
+    let is-shaped : tie.Else1 = search in
+    omega (arith, long is-shaped)
 
 -- the decoder was called
 module _ (c : tie.After-viterbi-decode-bytes) where
-  abbrev given : List ℕ
-  given = input (c .before .before .before .before .before .before .before .before .before)
+  abbrev asking : tie.After-asked
+  asking = search
 
-  call : Called given (take (length given - 4) (drop 4 given)) (c .before .before .before .before .asked .result) (c .viterbi-decode-bytes .result)
+  abbrev shape : tie.Else1
+  shape = search
+
+  abbrev given : List ℕ
+  given = input shape
+
+  call : Called given (take (length given - 4) (drop 4 given)) (asking .asked .result) (c .viterbi-decode-bytes .result)
   call =
       record {
-        is = is (c .before .before .before .before .before .before .before .before .before);
-        asks = asks-count given (c .before .before .before .before .asked .result) _ (c .before .before .before .before .asked .ensures) refl;
+        is = is shape;
+        asks = asks-count given (asking .asked .result) _ (asking .asked .ensures) refl;
         behind = rest-taken given 4 (length given) refl;
         says = c .viterbi-decode-bytes .ensures .answer;
       }
 
 returns-2 : tie.Need-returns-2
 returns-2 c =
-    rw (refused-output (call (c .before .before .before .before .before .before)) (c .before .before .enum-told .given .1) _ _ (c .before .refusal-in .ensures))
-    (c .refused-line2 .ensures)
+    let told : tie.After-enum-told = search in
+    let called : tie.After-viterbi-decode-bytes = search in
+    let (refusal, is-refused) = told .enum-told .given in
+    rw (refused-output (call called) is-refused _ _ (c .before .refusal-in .ensures)) (c .refused-line2 .ensures)
 
 -- and found a word
 module _ (c : tie.After-known-told) where
+  abbrev found : tie.After-decoded
+  found = search
+
   abbrev called : tie.After-viterbi-decode-bytes
-  called = c .before .before .before .before .before
+  called = search
 
   abbrev info : ℕ
   info = infoIn (given called)
@@ -124,7 +116,9 @@ module _ (c : tie.After-known-told) where
   left = called .viterbi-decode-bytes .last .1 .1 .1 .1 .0
 
   few : info ≤ 1000
-  few = info-few (call called) (c .before .decoded .given .1)
+  few =
+      let (score, is-word) = found .decoded .given in
+      info-few (call called) is-word
 
   room : length left ≡ 1000
   room = called .viterbi-decode-bytes .kept .1 .1 .1 .1 .0
@@ -143,38 +137,19 @@ word-line-requires c κs = omega (arith, few (c .before), front-long (c .before)
 
 returns-3 : tie.Need-returns-3
 returns-3 c =
-    let told = c .before .before in
-    rw (word-output (call (called told)) (told .before .decoded .given .1) (left told) (called told .viterbi-decode-bytes .ensures .output))
-    (c .word-line .ensures)
+    let known : tie.After-known-told = search in
+    let found : tie.After-decoded = search in
+    let called : tie.After-viterbi-decode-bytes = search in
+    let (score, is-word) = found .decoded .given in
+    rw (word-output (call called) is-word (left known) (called .viterbi-decode-bytes .ensures .output)) (c .word-line .ensures)
 
 pub answer-spec : {M : Type 1} → statement M
 answer-spec =
     tie.close
-    (tie.spec
-    is-shaped-requires
-    refused-line-requires
-    returns
-    shared-slice-read-info
-    cast-info
-    shared-slice-read-info-2
-    cast-info-2
-    mul-info
-    add-info
-    shared-slice-read-viterbi-decode-bytes
-    sub-viterbi-decode-bytes
-    part-viterbi-decode-bytes-start
-    part-viterbi-decode-bytes-end
-    asked-requires
-    shared-slice-read-viterbi-decode-bytes-2
-    slice-aggregate-viterbi-decode-bytes
-    slice-aggregate-viterbi-decode-bytes-2
-    viterbi-decode-bytes-requires
-    enum-known-decoded
-    enum-told
-    refusal-in-requires
-    refused-line-requires-2
-    returns-2
-    array-share-prefix-word
-    slice-aggregate-word-line
-    word-line-requires
-    returns-3)
+    (tie.spec (search needs) (search needs) returns
+    shared-slice-read-info cast-info shared-slice-read-info-2 cast-info-2 mul-info add-info
+    shared-slice-read-viterbi-decode-bytes sub-viterbi-decode-bytes
+    part-viterbi-decode-bytes-start (search needs) (search needs)
+    shared-slice-read-viterbi-decode-bytes-2 (search needs) (search needs) (search needs)
+    (search needs) (search needs) (search needs) (search needs) returns-2
+    array-share-prefix-word slice-aggregate-word-line word-line-requires returns-3)
