@@ -1,6 +1,5 @@
 -- The turns of the encoder's loop: what its two puts add is what the step sends. Over any code and keep pattern. Assumes
 -- nothing.
-use mathlib.Core.Bool.{Bool}
 use mathlib.Core.List.{List, [], _++_, append-assoc}
 use mathlib.Core.Path.{_≡_, refl, sym, ap, _∙_}
 use Prim.Native.Nat.{ℕ, suc, _+_, _%_, _≤_, _<_}
@@ -17,11 +16,11 @@ use Rattle.trellis.specs.declared.KeepPattern.{KeepPattern}
 use Rattle.trellis.specs.declared.Pair.{Pair}
 use Rattle.trellis.specs.Choice.{keepOf}
 use Rattle.trellis.specs.Codeword.{coded0, coded1, sentBy, lowestBits}
-use Rattle.trellis.specs.Keep.{Keep, keeps0, keeps1, onlyIf, keptOf, keptThrough, codedLength}
+use Rattle.trellis.specs.Keep.{Keep, keeps0, keeps1, keptOf, keptThrough}
 use Rattle.trellis.specs.Post.{Taken, Branched}
 use Rattle.trellis.specs.State.{nextState, stateAfter}
 use Rattle.trellis.proofs.Columns.{rows-pattern, keeps0-column, keeps1-column, column-next}
-use Rattle.trellis.proofs.Kept.{one, length-only, coded-suc, coded-mono}
+use Rattle.trellis.proofs.Kept.{length-only, coded-suc, coded-mono}
 use Rattle.trellis.proofs.Sent.{length-sent, lowest-inputs, coded0-state, coded1-state}
 use Rattle.trellis.proofs.States.{state-below}
 use Rattle.encoder.specs.Inner.{keptBy, RoomFor, Puts, Ready}

@@ -1,7 +1,7 @@
 -- What the inner functions ask and ensure. Definitions only.
 use mathlib.Core.List.{List, _++_, map}
 use mathlib.Core.Path.{_≡_}
-use Prim.Native.Nat.{ℕ, _+_, _*_, _^_, _≤_, _<_}
+use Prim.Native.Nat.{ℕ, _*_, _^_, _≤_, _<_}
 use lib.Ieee.{Float, nan}
 use lib.ListN.{length, getD, drop}
 use Rattle.best_path.specs.Step.{Cell, step}
