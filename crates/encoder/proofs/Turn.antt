@@ -23,7 +23,7 @@ use Rattle.trellis.proofs.Columns.{rows-pattern, keeps0-column, keeps1-column, 
 use Rattle.trellis.proofs.Kept.{length-only, coded-suc, coded-mono}
 use Rattle.trellis.proofs.Sent.{length-sent, lowest-inputs, coded0-state, coded1-state}
 use Rattle.trellis.proofs.States.{state-below}
-use Rattle.encoder.specs.Inner.{keptBy, RoomFor, Puts, Ready}
+use Rattle.encoder.specs.Inner.{keptBy, RoomFor, PutsAt, Ready}
 
 -- `out` is `front` over the front of `old` and as long as it, and `at` is the place behind `front`
 pub record Fronted (front old out : List ℕ) (at : ℕ) : Type 0 where
@@ -49,7 +49,7 @@ piece-adds front old out new piece at next f g h z =
 -- the same of a put
 put-adds :
     {front old piece : List ℕ} {at next : ℕ} {put : Lent ℕ} →
-    Fronted front old (put .given) at → RoomFor piece at (put .given) → Puts piece at next put →
+    Fronted front old (put .given) at → RoomFor piece at (put .given) → PutsAt piece at next put →
     Fronted (front ++ piece) old (put .left) next
 put-adds {front} {old} {piece} {at} {next} {put} f room puts =
     let new = take at (put .given) ++ piece in
@@ -168,7 +168,7 @@ module _
       -- after the first put
       module _
           (h : t < steps) {middle : List ℕ} {behind : ℕ}
-          (puts : Puts (first (pair .c0)) at behind (record { given = out; left = middle })) where
+          (puts : PutsAt (first (pair .c0)) at behind (record { given = out; left = middle })) where
         first-put : Fronted (sent ++ first (pair .c0)) old middle behind
         first-put = put-adds (now .front) (first-fits h (pair .c0)) puts
 
@@ -179,7 +179,7 @@ module _
         -- after the second
         pub encoded-goes-on :
             {left : List ℕ} {next s' column' : ℕ} →
-            Puts (second (pair .c1)) behind next (record { given = middle; left = left }) →
+            PutsAt (second (pair .c1)) behind next (record { given = middle; left = left }) →
             s' ≡ nextState code s b → column' ≡ (column + 1) % keep .period →
             Encoded code keep bits steps old (t + 1) s' column' next left
         encoded-goes-on {left} {next} {s'} {column'} puts' state' counted' =

@@ -20,7 +20,7 @@ keptBy column bit = onlyIf (eqb column 1) bit
 abbrev pub RoomFor : (piece : List ℕ) → (at : ℕ) → (out : List ℕ) → Type 0
 RoomFor piece at out = at + length piece ≤ length out
 
-pub record Puts (piece : List ℕ) (at next : ℕ) (out : Lent ℕ) : Type 0 where
+pub record PutsAt (piece : List ℕ) (at next : ℕ) (out : Lent ℕ) : Type 0 where
   pub place : next ≡ at + length piece
   pub output : out .left ≡ over (take at (out .given) ++ piece) (out .given)
 

@@ -8,7 +8,7 @@ ghost use Rattle.trellis.specs.Choice.{codeOf, patternOf, keepOf};
 ghost use Rattle.trellis.specs.Codeword.{lowestBits};
 ghost use Rattle.trellis.specs.Keep.{codedLength};
 ghost use Rattle.encoder.specs.Promise.{Measures, Encodes, EncodesPlain};
-ghost use Rattle.encoder.specs.Inner.{keptBy, RoomFor, Puts, Ready, Sends};
+ghost use Rattle.encoder.specs.Inner.{keptBy, RoomFor, PutsAt, Ready, Sends};
 use refusal::Counted;
 use trellis::ConvCode;
 use trellis::KeepPattern;
@@ -26,7 +26,7 @@ fn input_at(bits: &[u8], t: usize) -> u32
 // Writes a coded bit at `at` if its column keeps it. Answers the place after it.
 fn put(column: u8, bit: u8, at: usize, out: &mut [u8]) -> usize
     requires { ⌜ RoomFor (keptBy column bit) at (now out) ⌝ }
-    ensures { λ r. ⌜ Puts (keptBy column bit) at r (lent out) ⌝ }
+    ensures { λ r. ⌜ PutsAt (keptBy column bit) at r (lent out) ⌝ }
 {
     if column == 1 {
         out[at] = bit;
