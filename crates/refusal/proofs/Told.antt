@@ -3,7 +3,8 @@
 use mathlib.Core.Bool.{Bool, true, false}
 use mathlib.Core.Path.{_≡_, sym, ap, ap₂, _∙_}
 use Prim.Native.Nat.{ℕ}
-use Rattle.refusal.specs.Answer.{Said, accepted, refused, refuseWhen, countSaid, wordSaid, doneSaid, Counts, Numbers, Scores, ScoreNumbers}
+use Rattle.refusal.specs.Answer.{Said, accepted, refused, refuseWhen, countSaid, wordSaid, doneSaid}
+use Rattle.refusal.specs.Answer.{Counts, Numbers, Scores, ScoreNumbers}
 use Rattle.refusal.specs.declared.Refusal.{Refusal}
 use Rattle.refusal.specs.declared.Counted.{Counted}
 use Rattle.refusal.specs.declared.Counted.the-variants as counted
