@@ -1,4 +1,4 @@
-//! The count of groups, and a line of report for each.
+//! The count of groups, and a line of report for each: of one area, and of all together.
 
 use std::process::ExitCode;
 
@@ -9,6 +9,7 @@ pub type Outcome = Result<u64, String>;
 pub struct Groups {
     passed: u64,
     failed: u64,
+    lines: Vec<String>,
 }
 
 impl Groups {
@@ -21,13 +22,20 @@ impl Groups {
         match outcome {
             Ok(cases) => {
                 self.passed += 1;
-                println!("{what}: {cases} cases, same");
+                self.lines.push(format!("{what}: {cases} cases, same"));
             }
             Err(case) => {
                 self.failed += 1;
-                println!("{what}: DIFFERS\n{case}");
+                self.lines.push(format!("{what}: DIFFERS\n{case}"));
             }
         }
+    }
+
+    /// Prints the lines of an area, and counts its groups with the others.
+    pub fn add(&mut self, area: Groups) {
+        area.lines.iter().for_each(|line| println!("{line}"));
+        self.passed += area.passed;
+        self.failed += area.failed;
     }
 
     /// The last line, and the exit status.

@@ -17,21 +17,45 @@ mod varicode;
 use expected::Random;
 use groups::Groups;
 use std::process::ExitCode;
+use std::thread;
 
 /// Repeats the random inputs; any other number serves as well.
 const SEED: u64 = 0x4879_6F6C_6D75_7265;
 
+/// What compares an area: it reports its groups, with random inputs of its own.
+type Area = fn(&mut Groups, &mut Random);
+
+const AREAS: [Area; 10] = [
+    encoder::run,
+    decoder::run,
+    varicode::run_words,
+    varicode::run_queues,
+    varicode::run_joined,
+    symbols::run,
+    streaming::run,
+    no_calls::run,
+    damaged::run,
+    program::run,
+];
+
+/// The areas run side by side, and are reported in order.
 fn main() -> ExitCode {
     println!("compare: random inputs from seed {SEED:#x}");
     let mut groups = Groups::default();
-    let random = &mut Random::new(SEED);
-    encoder::run(&mut groups, random);
-    decoder::run(&mut groups, random);
-    varicode::run(&mut groups, random);
-    symbols::run(&mut groups, random);
-    streaming::run(&mut groups, random);
-    no_calls::run(&mut groups);
-    damaged::run(&mut groups, random);
-    program::run(&mut groups, random);
+    thread::scope(|scope| {
+        let areas: Vec<_> = (SEED..)
+            .zip(AREAS)
+            .map(|(seed, area)| scope.spawn(move || compared(area, seed)))
+            .collect();
+        for area in areas {
+            groups.add(area.join().expect("an area ends"));
+        }
+    });
     groups.finish()
+}
+
+fn compared(area: Area, seed: u64) -> Groups {
+    let mut groups = Groups::default();
+    area(&mut groups, &mut Random::new(seed));
+    groups
 }

@@ -2,6 +2,7 @@
 
 use crate::answers::output_of;
 use crate::groups::{Groups, Outcome};
+use expected::Random;
 use list::line::Line;
 use list::varicode::word_line;
 
@@ -63,7 +64,7 @@ const LINES: [&str; 46] = [
     "r 0000 00 0 (00*40) 0 0 p1 ",
 ];
 
-pub fn run(groups: &mut Groups) {
+pub fn run(groups: &mut Groups, _: &mut Random) {
     groups.report(
         "answers, lines that are no calls or too long, each among calls, and a last line without a line feed",
         outcome(),
