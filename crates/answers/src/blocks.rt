@@ -1,19 +1,19 @@
 // The calls of the encoders and of the block decoders. A lent buffer is of the length that the line says, and is
 // printed whole.
-use crate::fields::LONG;
-use crate::fields::SHORT;
-use crate::fields::byte;
-use crate::fields::field;
-use crate::fields::fill;
-use crate::fields::fill_floats;
-use crate::fields::lent;
-use crate::fields::lent_long;
-use crate::fields::number;
-use crate::fields::room;
-use crate::print::print_answer;
-use crate::print::print_bytes;
-use crate::print::print_number;
-use crate::shapes::COMPONENTS;
+use call_lines::fields::LONG;
+use call_lines::fields::SHORT;
+use call_lines::fields::byte;
+use call_lines::fields::field;
+use call_lines::fields::fill;
+use call_lines::fields::fill_floats;
+use call_lines::fields::lent;
+use call_lines::fields::lent_long;
+use call_lines::fields::number;
+use call_lines::fields::room;
+use call_lines::print::print_answer;
+use call_lines::print::print_bytes;
+use call_lines::print::print_number;
+use call_lines::shapes::COMPONENTS;
 use refusal::count_number;
 use refusal::word_number;
 

@@ -8,13 +8,11 @@ ghost use Prim.Native.Nat.{_≤_, _<_};
 ghost use lib.ListN.{length};
 
 mod blocks;
-mod fields;
-mod print;
-mod shapes;
 mod stream;
 mod varicodes;
 
-use fields::find;
+use call_lines::fields::find;
+use call_lines::shapes::is_call;
 use libc::STDIN_FILENO;
 use libc::STDOUT_FILENO;
 
@@ -50,7 +48,7 @@ fn answer_call(line: &[u8])
         io::write_all(STDOUT_FILENO, b"too long");
         return;
     }
-    if shapes::is_call(line) {
+    if is_call(line) {
         io::write_all(STDOUT_FILENO, &line[0..1]);
         call(letter, line);
         return;

@@ -3,8 +3,8 @@ use mathlib.Core.Path.{_≡_}
 use Prim.Native.Nat.{_-_}
 use lib.ListN.{length}
 use borrow.Author.Needs.{needs}
-use Rattle.answers.proofs.shapes.kinds_fit.Statement.{statement}
-use Rattle.answers.proofs.shapes.kinds_fit.Tie as tie
+use Rattle.call_lines.proofs.shapes.kinds_fit.Statement.{statement}
+use Rattle.call_lines.proofs.shapes.kinds_fit.Tie as tie
 
 abbrev Inv-loop : tie.InvT-loop
 Inv-loop line kinds i₀ i-end i = i-end ≡ length kinds

@@ -3,8 +3,8 @@ use mathlib.Core.Path.{_≡_}
 use Prim.Native.Nat.{_-_, _≤_}
 use lib.ListN.{length}
 use borrow.Author.Needs.{needs}
-use Rattle.answers.proofs.fields.repeat.Statement.{statement}
-use Rattle.answers.proofs.fields.repeat.Tie as tie
+use Rattle.call_lines.proofs.fields.repeat.Statement.{statement}
+use Rattle.call_lines.proofs.fields.repeat.Tie as tie
 
 abbrev Inv-loop : tie.InvT-loop
 Inv-loop into₀ len start end i₀ into i = (len ≤ i) × (length into ≡ length into₀)

@@ -3,8 +3,8 @@ use mathlib.Core.Path.{_≡_}
 use Prim.Native.Nat.{_-_, _≤_}
 use lib.ListN.{length}
 use borrow.Author.Needs.{needs}
-use Rattle.answers.proofs.print.put_all.Statement.{statement}
-use Rattle.answers.proofs.print.put_all.Tie as tie
+use Rattle.call_lines.proofs.print.put_all.Statement.{statement}
+use Rattle.call_lines.proofs.print.put_all.Tie as tie
 
 abbrev Inv-loop : tie.InvT-loop
 Inv-loop text₀ start bytes at₀ i₀ i-end text at i = (i-end ≡ length bytes) × (at ≤ 4096)

@@ -1,21 +1,20 @@
--- `answers::fields::start_of` is safe. Assumes nothing.
+-- `answers::print::put_times` is safe. Assumes nothing.
 use Prim.Native.Nat.{_-_, _≤_}
-use lib.ListN.{length}
 use borrow.Author.Needs.{needs}
-use Rattle.answers.proofs.fields.start_of.Statement.{statement}
-use Rattle.answers.proofs.fields.start_of.Tie as tie
+use Rattle.call_lines.proofs.print.put_times.Statement.{statement}
+use Rattle.call_lines.proofs.print.put_times.Tie as tie
 
 abbrev Inv-loop : tie.InvT-loop
-Inv-loop line place at₀ counter₀ at counter = at ≤ length line
+Inv-loop text₀ start b count at₀ counter₀ text at counter = at ≤ 4096
 
 abbrev μ-loop : tie.MeasureT-loop
-μ-loop line place at₀ counter₀ at counter = place - counter
+μ-loop text₀ start b count at₀ counter₀ text at counter = count - counter
 
 loop-holds : tie.Need-loop-holds Inv-loop μ-loop
 loop-holds c = search needs
 
-next-field-requires : tie.Need-next-field-requires Inv-loop μ-loop
-next-field-requires c κs = search needs
+put-digits-requires : tie.Need-put-digits-requires Inv-loop μ-loop
+put-digits-requires c κs = search needs
 
 add-counter : tie.Need-add-counter Inv-loop μ-loop
 add-counter c = search needs
@@ -29,14 +28,14 @@ loop-again c = search needs
 returns : tie.Need-returns Inv-loop μ-loop
 returns c = search needs
 
-pub start-of-spec : {M : Type 1} → statement M
-start-of-spec =
+pub put-times-spec : {M : Type 1} → statement M
+put-times-spec =
     tie.close
     (tie.spec
     Inv-loop
     μ-loop
     loop-holds
-    next-field-requires
+    put-digits-requires
     add-counter
     loop-less
     loop-again

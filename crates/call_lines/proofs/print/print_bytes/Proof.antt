@@ -2,8 +2,8 @@
 use Prim.Native.Nat.{_-_, _≤_}
 use lib.ListN.{length}
 use borrow.Author.Needs.{needs}
-use Rattle.answers.proofs.print.print_bytes.Statement.{statement}
-use Rattle.answers.proofs.print.print_bytes.Tie as tie
+use Rattle.call_lines.proofs.print.print_bytes.Statement.{statement}
+use Rattle.call_lines.proofs.print.print_bytes.Tie as tie
 
 abbrev Inv-loop : tie.InvT-loop
 Inv-loop bytes text₀ at₀ i₀ text at i = (i ≤ length bytes) × (at ≤ 4096)

@@ -2,8 +2,8 @@
 use Prim.Native.Nat.{_+_, _-_, _≤_}
 use lib.ListN.{length}
 use borrow.Author.Needs.{needs}
-use Rattle.answers.proofs.shapes.steps_fit.Statement.{statement}
-use Rattle.answers.proofs.shapes.steps_fit.Tie as tie
+use Rattle.call_lines.proofs.shapes.steps_fit.Statement.{statement}
+use Rattle.call_lines.proofs.shapes.steps_fit.Tie as tie
 
 abbrev Inv-loop : tie.InvT-loop
 Inv-loop line from at₀ at = at ≤ length line + 1

@@ -3,8 +3,8 @@ use mathlib.Core.Path.{_≡_}
 use Prim.Native.Nat.{_-_, _<_}
 use lib.ListN.{length}
 use borrow.Author.Needs.{needs}
-use Rattle.answers.proofs.print.equal_from.Statement.{statement}
-use Rattle.answers.proofs.print.equal_from.Tie as tie
+use Rattle.call_lines.proofs.print.equal_from.Statement.{statement}
+use Rattle.call_lines.proofs.print.equal_from.Tie as tie
 
 abbrev Inv-loop : tie.InvT-loop
 Inv-loop bytes at i₀ i-end i = (i-end ≡ length bytes) × (at < i)
