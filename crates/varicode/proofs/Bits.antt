@@ -7,8 +7,8 @@ use native.Mathlib.Omega.{arith}
 use borrow.Author.Tests.{lt-ltb, le-ltb}
 use lib.Dec.{lit<}
 use Rattle.queue.specs.declared.CharQueue.{CharQueue}
-use Rattle.queue.specs.Held.{chars}
-use Rattle.queue.specs.Ring.{Ring, readAs, putOne, putAll}
+use Rattle.queue.specs.Records.{chars}
+use Rattle.queue.specs.Ring.{Ring, readAs, putOne, putAll, charRoom}
 use Rattle.refusal.specs.Answer.{accepted, refused, doneSaid}
 use Rattle.varicode_words.specs.Word.{decodeOf}
 use Rattle.varicode.specs.declared.reader.VaricodeDecoder.{VaricodeDecoder}
@@ -17,7 +17,7 @@ use Rattle.varicode.specs.Records.{reader}
 use Rattle.varicode.specs.Promise.{Pushes}
 use Rattle.varicode.specs.Inner.{Joins, Forgets}
 use Rattle.varicode.specs.Reader.{Heard, nothingHeard, ends, letterAt, heardAfter, readHeard}
-use Rattle.varicode.specs.Reader.{Reader, charRoom, brought, noRoom, withLetter, bitSaid, bitLeaves}
+use Rattle.varicode.specs.Reader.{Reader, brought, noRoom, withLetter, bitSaid, bitLeaves}
 use Rattle.varicode.proofs.Takes.{room-for-one}
 
 abbrev made : Heard → Ring → Reader

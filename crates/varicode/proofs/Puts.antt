@@ -10,13 +10,14 @@ use lib.ListN.{length, replicate, length-append, length-replicate}
 use Rattle.binary.specs.Digits.{digits}
 use Rattle.binary.proofs.Values.{length-digits}
 use Rattle.queue.specs.declared.BitQueue.{BitQueue}
-use Rattle.queue.specs.Held.{bits, Room}
-use Rattle.queue.specs.Ring.{Ring, readAs, putAll}
+use Rattle.queue.specs.Inner.{Room}
+use Rattle.queue.specs.Records.{bits}
+use Rattle.queue.specs.Ring.{Ring, readAs, putAll, bitRoom}
 use Rattle.queue.proofs.Rings.{read-room, put-all-append, put-all-room}
 use Rattle.varicode_words.specs.Word.{lengthOf, wordOf, bitsOf}
 use Rattle.varicode.specs.declared.writer.VaricodeEncoder.{VaricodeEncoder}
 use Rattle.varicode.specs.declared.writer.Wrote.{Wrote}
-use Rattle.varicode.specs.Writer.{Call, opening, byte, closing, gap, bitRoom, bitsPut, firstAfter, tooMany, putSaid, putLeaves}
+use Rattle.varicode.specs.Writer.{Call, opening, byte, closing, gap, bitsPut, firstAfter, tooMany, putSaid, putLeaves}
 use Rattle.varicode.specs.Records.{writer}
 use Rattle.varicode.specs.Promise.{Puts}
 use Rattle.varicode.specs.Inner.{Accepts, Refuses}

@@ -1,5 +1,5 @@
--- Take: taking out of a queue. Writer: what openings, bytes and closings put. Reader: what each bit brings. Records: the
--- writer and the reader as the code holds them. Promise: what the entries promise. Inner: what the inner functions
+-- Take: taking out of a queue. Writer: what openings, bytes and closings put. Reader: what each bit brings. Records:
+-- the writer and the reader as the code holds them. Promise: what the entries promise. Inner: what the inner functions
 -- ensure. Runs: calls one after the other, from fresh ones.
 pub mod Take
 pub mod Writer

@@ -1,6 +1,7 @@
 -- What the entries promise: the answer and the whole record after the call. Definitions only.
 use mathlib.Core.Path.{_≡_}
 use Prim.Native.Nat.{ℕ}
+use Rattle.queue.specs.Ring.{bitRoom, charRoom}
 use Rattle.refusal.specs.Answer.{doneSaid}
 use Rattle.varicode.specs.declared.writer.VaricodeEncoder.{VaricodeEncoder}
 use Rattle.varicode.specs.declared.writer.Wrote.{Wrote}
@@ -9,8 +10,8 @@ use Rattle.varicode.specs.declared.reader.VaricodeDecoder.{VaricodeDecod
 use Rattle.varicode.specs.declared.reader.Pushed.{Pushed}
 use Rattle.varicode.specs.declared.reader.NextChar.{NextChar}
 use Rattle.varicode.specs.Take.{taken}
-use Rattle.varicode.specs.Writer.{Call, putSaid, putLeaves, bitRoom, nextLeaves}
-use Rattle.varicode.specs.Reader.{bitSaid, bitLeaves, charRoom, charLeaves}
+use Rattle.varicode.specs.Writer.{Call, putSaid, putLeaves, nextLeaves}
+use Rattle.varicode.specs.Reader.{bitSaid, bitLeaves, charLeaves}
 use Rattle.varicode.specs.Records.{writer, reader, takenSaid}
 
 -- `push_preamble`, `push_byte`, `push_postamble`: a call that puts bits

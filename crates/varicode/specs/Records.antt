@@ -1,8 +1,8 @@
--- The writer and the reader as the code holds them, and what is taken out of a queue: the definitions' forms of the code's
--- records and answers. Definitions only.
+-- The writer and the reader as the code holds them, and what is taken out of a queue: the definitions' forms of the
+-- code's records and answers. Definitions only.
 use mathlib.Core.List.{List, [], _∷_}
 use Prim.Native.Nat.{ℕ}
-use Rattle.queue.specs.Held.{bits, chars}
+use Rattle.queue.specs.Records.{bits, chars}
 use Rattle.varicode.specs.declared.writer.VaricodeEncoder.{VaricodeEncoder}
 use Rattle.varicode.specs.declared.reader.VaricodeDecoder.{VaricodeDecoder}
 use Rattle.varicode.specs.declared.Taken.{Taken}

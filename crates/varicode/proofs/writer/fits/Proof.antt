@@ -4,7 +4,7 @@ use Prim.Native.Nat.{_+_}
 use native.Mathlib.Omega.{arith}
 use borrow.Author.Needs.{needs}
 use borrow.Author.Tests.{le-leb, lt-leb}
-use Rattle.varicode.specs.Writer.{bitRoom}
+use Rattle.queue.specs.Ring.{bitRoom}
 use Rattle.varicode.proofs.writer.fits.Statement.{statement}
 use Rattle.varicode.proofs.writer.fits.Tie as tie
 

@@ -3,9 +3,9 @@ use mathlib.Core.Path.{_≡_, refl, sym, ap, _∙_}
 use Prim.Native.Nat.{ℕ}
 use borrow.Author.Needs.{needs}
 use lib.Dec.{lit<}
+use Rattle.queue.specs.Ring.{charRoom}
 use Rattle.varicode_words.specs.declared.Letter.{Letter}
 use Rattle.varicode_words.specs.Word.{letterSaid, decodeOf}
-use Rattle.varicode.specs.Reader.{charRoom}
 use Rattle.varicode.proofs.Bits.{pushes-full, pushes-byte, pushes-nothing}
 use Rattle.varicode.proofs.Takes.{room-for-one}
 use Rattle.varicode.proofs.reader.VaricodeDecoder.end_word.Statement.{statement}
@@ -22,11 +22,12 @@ returns c =
     let full : tie.Then1 = search in
     let queue : tie.After-read = search in
     let letter : tie.After-c = search in
+    let (one, is) = letter .c .given in
     let looked : tie.After-varicode-decode = search in
     let less : tie.After-one-less = search in
     let start : tie.Start = search in
     pushes-full (start .args .self) _ (start .pre) _
-    (looked-up _ (looked .varicode-decode .ensures) (letter .c .given .1) (less .one-less .ensures)) _
+    (looked-up _ (looked .varicode-decode .ensures) is (less .one-less .ensures)) _
     (queue .read .ensures) (full .if1 .taken) (c .not-done .ensures) refl
 
 put-requires : tie.Need-put-requires
@@ -40,21 +41,23 @@ returns-2 c =
     let free : tie.Else1 = search in
     let queue : tie.After-read = search in
     let letter : tie.After-c = search in
+    let (one, is) = letter .c .given in
     let looked : tie.After-varicode-decode = search in
     let less : tie.After-one-less = search in
     let start : tie.Start = search in
     pushes-byte (start .args .self) _ (start .pre) _
-    (looked-up _ (looked .varicode-decode .ensures) (letter .c .given .1) (less .one-less .ensures)) _
+    (looked-up _ (looked .varicode-decode .ensures) is (less .one-less .ensures)) _
     (queue .read .ensures) (free .if1 .left) _ (put .put .ensures) refl (c .forgotten .ensures)
 
 returns-3 : tie.Need-returns-3
 returns-3 c =
     let letter : tie.After-enum-told = search in
+    let (none, is) = letter .enum-told .given in
     let looked : tie.After-varicode-decode = search in
     let less : tie.After-one-less = search in
     let start : tie.Start = search in
     pushes-nothing (start .args .self) _ (start .pre)
-    (looked-up _ (looked .varicode-decode .ensures) (letter .enum-told .given .1) (less .one-less .ensures)) refl (c .forgotten2 .ensures)
+    (looked-up _ (looked .varicode-decode .ensures) is (less .one-less .ensures)) refl (c .forgotten2 .ensures)
 
 pub end-word-spec : {M : Type 1} → statement M
 end-word-spec =

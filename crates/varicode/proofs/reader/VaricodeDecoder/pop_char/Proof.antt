@@ -4,10 +4,10 @@ use mathlib.Core.Path.{sym, ap, _∙_}
 use Prim.Native.Nat.{ℕ}
 use borrow.Author.Needs.{needs}
 use lib.Dec.{lit<}
-use Rattle.queue.specs.Ring.{Ring}
-use Rattle.varicode.specs.Reader.{Reader, Heard, charRoom}
+use Rattle.queue.specs.Ring.{Ring, charRoom}
+use Rattle.varicode.specs.Reader.{Reader, Heard}
 use Rattle.varicode.specs.Records.{reader}
-use Rattle.varicode.proofs.Takes.{within, taken-nothing, left-whole, holds-some, taken-front, left-rest}
+use Rattle.varicode.proofs.Takes.{within, taken-nothing, left-in-range, holds-some, taken-front, left-rest}
 use Rattle.varicode.proofs.reader.VaricodeDecoder.pop_char.Statement.{statement}
 use Rattle.varicode.proofs.reader.VaricodeDecoder.pop_char.Tie as tie
 
@@ -21,7 +21,7 @@ returns c =
     let read = queue .read .ensures in
     record {
       answer = sym (taken-nothing charRoom (lit< tt) _ _ read (c .if1 .taken));
-      state = ap (made (reader (start .args .self) .heard)) (sym (left-whole charRoom (lit< tt) _ _ read (c .if1 .taken)));
+      state = ap (made (reader (start .args .self) .heard)) (sym (left-in-range charRoom (lit< tt) _ _ read (c .if1 .taken)));
     }
 
 rest-requires : tie.Need-rest-requires

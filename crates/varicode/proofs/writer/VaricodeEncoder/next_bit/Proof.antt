@@ -5,9 +5,9 @@ use mathlib.Core.Path.{sym, ap, _∙_}
 use Prim.Native.Nat.{ℕ}
 use borrow.Author.Needs.{needs}
 use lib.Dec.{lit<}
-use Rattle.queue.specs.Ring.{Ring}
-use Rattle.varicode.specs.Writer.{Writer, bitRoom}
-use Rattle.varicode.proofs.Takes.{within, taken-nothing, left-whole, holds-some, taken-front, left-rest}
+use Rattle.queue.specs.Ring.{Ring, bitRoom}
+use Rattle.varicode.specs.Writer.{Writer}
+use Rattle.varicode.proofs.Takes.{within, taken-nothing, left-in-range, holds-some, taken-front, left-rest}
 use Rattle.varicode.proofs.writer.VaricodeEncoder.next_bit.Statement.{statement}
 use Rattle.varicode.proofs.writer.VaricodeEncoder.next_bit.Tie as tie
 
@@ -21,7 +21,7 @@ returns c =
     let read = queue .read .ensures in
     record {
       answer = sym (taken-nothing bitRoom (lit< tt) _ _ read (c .if1 .taken));
-      state = ap (made (start .args .self .first)) (sym (left-whole bitRoom (lit< tt) _ _ read (c .if1 .taken)));
+      state = ap (made (start .args .self .first)) (sym (left-in-range bitRoom (lit< tt) _ _ read (c .if1 .taken)));
     }
 
 rest-requires : tie.Need-rest-requires

@@ -31,10 +31,14 @@ put-word-requires c κs =
     let gap : tie.After-gap-len = search in
     let word : tie.After-varicode-encode = search in
     let start : tie.Start = search in
-    let len = word .varicode-encode .result .len in (
-      omega (arith, word .varicode-encode .ensures .len, any-word-length (start .args .b) .1),
-      rest-room _ _ (gap .gap-len .result) len _ (queue .read .ensures) (tested .fits2 .ensures) (fit .if1 .taken) _ (c .put-run .ensures),
-    )
+    let len = word .varicode-encode .result .len in
+    let (some, short) = any-word-length (start .args .b) in
+    record {
+      few = omega (arith, word .varicode-encode .ensures .len, short);
+      room =
+          rest-room _ _ (gap .gap-len .result) len _ (queue .read .ensures) (tested .fits2 .ensures) (fit .if1 .taken) _
+          (c .put-run .ensures);
+    }
 
 returns : tie.Need-returns
 unfolding firstAfter
