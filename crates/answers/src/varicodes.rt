@@ -18,9 +18,9 @@ use queue::CharQueue;
 use refusal::Counted;
 use refusal::Put;
 use refusal::count_number;
-use varicode::Fed;
 use varicode::NextBit;
 use varicode::NextChar;
+use varicode::Pushed;
 use varicode::Taken;
 use varicode::VaricodeDecoder;
 use varicode::VaricodeEncoder;
@@ -177,7 +177,7 @@ fn call(coders: Coders, letter: u8, value: u8) -> Called {
     match letter {
         b'b' => wrote(encoder.push_byte(value), decoder),
         b't' => took_bit(encoder.next_bit(), decoder),
-        b'i' => fed(encoder, decoder.push_bit(value)),
+        b'i' => pushed(encoder, decoder.push_bit(value)),
         _ => took_char(encoder, decoder.pop_char()),
     }
 }
@@ -212,7 +212,7 @@ fn took_bit(after: NextBit, decoder: VaricodeDecoder) -> Called {
     }
 }
 
-fn fed(encoder: VaricodeEncoder, after: Fed) -> Called {
+fn pushed(encoder: VaricodeEncoder, after: Pushed) -> Called {
     let decoder = after.decoder;
     let answer = after.answer;
     Called {

@@ -29,7 +29,8 @@ unfolding value
 value-snoc [] b = omega arith
 value-snoc (c ∷ cs) b =
     let size : length (cs ++ b ∷ []) ≡ suc (length cs) = length-append cs (b ∷ []) ∙ add-one (length cs) in
-    let top : c * 2 ^ suc (length cs) ≡ 2 * (c * 2 ^ length cs) = rw (pow-suc 2 (length cs)) (sym (mul-assoc c (2 ^ length cs) 2) ∙ mul-comm (c * 2 ^ length cs) 2) in
+    let top : c * 2 ^ suc (length cs) ≡ 2 * (c * 2 ^ length cs) =
+    rw (pow-suc 2 (length cs)) (sym (mul-assoc c (2 ^ length cs) 2) ∙ mul-comm (c * 2 ^ length cs) 2) in
     rw (size, value-snoc cs b, top) (omega arith)
 
 pub length-digits : (k n : ℕ) → length (digits k n) ≡ k

@@ -32,7 +32,12 @@ module _ (b0 b1 b2 b3 : ℕ) (rest : List ℕ) where
   later-value i =
       let at = 4 * suc i in
       let of = 4 * i in
-      rw (past-four of at (omega arith), past-four (of + 1) (at + 1) (omega arith), past-four (of + 2) (at + 2) (omega arith), past-four (of + 3) (at + 3) (omega arith))
+      rw (
+        past-four of at (omega arith),
+        past-four (of + 1) (at + 1) (omega arith),
+        past-four (of + 2) (at + 2) (omega arith),
+        past-four (of + 3) (at + 3) (omega arith),
+      )
 
 pub value-at : (bytes : List ℕ) (i : ℕ) → i < length bytes / 4 → valueAt bytes (4 * i) ≡ getD (allOfBytes bytes) i nan
 unfolding allOfBytes
@@ -62,11 +67,14 @@ module _ (bytes : List ℕ) (old : List Float) where
     module _ (i : ℕ) (values : List Float) (before : values ≡ copied i) where
       pub one-copied : (x : Float) → i < count → x ≡ valueAt bytes (4 * i) → set values i x ≡ copied (i + 1)
       one-copied x h e =
-          let value : x ≡ getD new i nan = e ∙ value-at bytes i (omega (arith, counted)) ∙ sym (getD-take (length old) (allOfBytes bytes) i nan (omega (arith, counted))) in
+          let value : x ≡ getD new i nan =
+          e ∙ value-at bytes i (omega (arith, counted)) ∙ sym (getD-take (length old) (allOfBytes bytes) i nan (omega (arith, counted))) in
           ap₂ (λ (l : List Float) (y : Float). set l i y) before value
           ∙ ap (λ (n : ℕ). set (copied i) n (getD new i nan)) (sym (zero-add i))
           ∙ paste-suc old 0 new i nan (omega (arith, counted)) (omega (arith, length-new)) ∙ ap copied (sym (add-one i))
 
     pub all-copied : (values : List Float) → values ≡ copied count → values ≡ new ++ drop count old
     all-copied values e =
-        e ∙ ap₂ (λ (front : List Float) (n : ℕ). front ++ drop n old) (ap (λ (n : ℕ). take n new) length-new ∙ take-length new) (zero-add count)
+        e
+        ∙ ap₂ (λ (front : List Float) (n : ℕ). front ++ drop n old) (ap (λ (n : ℕ). take n new) length-new ∙ take-length new)
+        (zero-add count)

@@ -1,16 +1,19 @@
--- Floats between two bounds q * 2 ^ j: sums, differences and squares stay between the sums and squares of the bounds, since rounding is monotone and
--- keeps a bound of few digits. At the end, what is within ±1,024, and what is below the mark f32::MAX / 2. Assumes nothing.
+-- Floats between two bounds q * 2 ^ j: sums, differences and squares stay between the sums and squares of the bounds, since rounding is
+-- monotone and keeps a bound of few digits. At the end, what is within ±1,024, and what is below the mark f32::MAX / 2. Assumes nothing.
 use mathlib.Core.Bool.{Bool, true, false, not, cond, _&&_, true≢false, false≢true}
 use mathlib.Core.Logic.{_⊎_, inl, inr}
 use mathlib.Core.Path.{_≡_, refl, sym, ap, subst, _∙_}
 use Prim.Native.Nat.{ℕ, zero, suc, _+_, _-_, _*_, _^_, _≤_, _<_, zero-le}
-use native.Mathlib.Nat.{le-trans, lt-of-le-of-lt, lt-of-lt-of-le, eq-or-lt-of-le, one-mul, mul-one, add-mul, mul-assoc, mul-comm, mul-left-comm, mul-right-comm, mul-pos, mul-le-mul, mul-le-mul-right, mul-lt-mul-of-pos-right, le-of-mul-le-mul-right, eq-of-mul-eq-mul-right}
+use native.Mathlib.Nat.{le-trans, lt-of-le-of-lt, lt-of-lt-of-le, eq-or-lt-of-le, one-mul, mul-one, add-mul, mul-assoc, mul-comm}
+use native.Mathlib.Nat.{mul-left-comm, mul-right-comm, mul-pos, mul-le-mul, mul-le-mul-right, mul-lt-mul-of-pos-right}
+use native.Mathlib.Nat.{le-of-mul-le-mul-right, eq-of-mul-eq-mul-right}
 use native.Mathlib.Omega.{arith}
 use borrow.Author.Tests.{ltb-false, lt-ltb, not-true}
 use lib.Dec.{T, ltb, nltb→le, lit≤}
 use lib.IntN.{ℤ}
 use lib.Pow.{pow-add, pow-lt, pow-mono, shl-lt}
-use lib.Ieee.{Float, nan, inf, fin, Format, binary32, prec, emax, low, up, down, odd, units, round, neg, sum, add, sub, mul, lt, le, isNan, ofBits}
+use lib.Ieee.{Float, nan, inf, fin, Format, binary32, prec, emax, low, up, down, odd, units, round, neg, sum, add, sub, mul, lt, le, isNan}
+use lib.Ieee.{ofBits}
 use lib.Ieee.Fits.{down-pos, two, two-le-pos, round-is}
 use lib.Ieee.Exact.{HasValue, round-exact}
 use lib.Ieee.Order.{round-mono}
@@ -52,20 +55,26 @@ module _ (f : Format) (j : ℕ) (room : prec f + j ≤ emax f) where
           (regroup q (low f))
       go (inl p) =
           let i = prec f + (j + low f) in
-          let power : 1 * 2 ^ i ≡ q * 2 ^ (j + low f) = one-mul (2 ^ i) ∙ pow-add 2 (prec f) (j + low f) ∙ ap (λ (n : ℕ). n * 2 ^ (j + low f)) (sym p) in
+          let power : 1 * 2 ^ i ≡ q * 2 ^ (j + low f) =
+          one-mul (2 ^ i) ∙ pow-add 2 (prec f) (j + low f) ∙ ap (λ (n : ℕ). n * 2 ^ (j + low f)) (sym p) in
           round-exact f false (q * 2 ^ j * c) c 1 i C (pow-lt (two-le-pos (prec f) (two f))) (rw one-mul (pow-lt (omega arith)))
           (regroup q (low f) ∙ ap (λ (n : ℕ). n * c) (sym power))
 
-  units-between : (s : Bool) (q k a b c : ℕ) (y : Float) → 0 < c → HasValue y false (cond s a b * 2 ^ j * c) c → T (le (units f false q k) y) → LiesBetween a b j (units f s q k)
+  units-between :
+      (s : Bool) (q k a b c : ℕ) (y : Float) → 0 < c → HasValue y false (cond s a b * 2 ^ j * c) c → T (le (units f false q k) y) →
+      LiesBetween a b j (units f s q k)
   unfolding units odd
   units-between s q k a b c y C v = go (ltb (q * 2 ^ k) (2 ^ (low f + suc (emax f)))) q
     where
-      go : (t : Bool) (q : ℕ) → T (le (cond t (odd (suc (prec f)) false q k (low f)) (inf false)) y) → LiesBetween a b j (cond t (odd (suc (prec f)) s q k (low f)) (inf s))
+      go :
+          (t : Bool) (q : ℕ) → T (le (cond t (odd (suc (prec f)) false q k (low f)) (inf false)) y) →
+          LiesBetween a b j (cond t (odd (suc (prec f)) s q k (low f)) (inf s))
       go true zero h = size-at-most _ _ y (cond s a b * 2 ^ j) c C v h
       go true (suc q) h = size-at-most _ _ y (cond s a b * 2 ^ j) c C v h
       go false q h = infinite-above y (cond s a b * 2 ^ j * c) c v h
 
-  pub round-between : (s : Bool) (n c a b : ℕ) → 0 < c → cond s a b ≤ 2 ^ prec f → n ≤ cond s a b * 2 ^ j * c → LiesBetween a b j (round f s n c)
+  pub round-between :
+      (s : Bool) (n c a b : ℕ) → 0 < c → cond s a b ≤ 2 ^ prec f → n ≤ cond s a b * 2 ^ j * c → LiesBetween a b j (round f s n c)
   round-between s n c a b C few h =
       let most = cond s a b * 2 ^ j * c in
       rw round-is
@@ -75,7 +84,9 @@ module _ (f : Format) (j : ℕ) (room : prec f + j ≤ emax f) where
   -- ---- sums and differences
 
   -- of unlike signs the larger one's is kept, with no more than its size
-  signs-between : (s t : Bool) (m n c a b a' b' : ℕ) → 0 < c → a + a' ≤ 2 ^ prec f → b + b' ≤ 2 ^ prec f → m ≤ cond s a b * 2 ^ j * c → n ≤ cond t a' b' * 2 ^ j * c → LiesBetween (a + a') (b + b') j (sum f s m t n c)
+  signs-between :
+      (s t : Bool) (m n c a b a' b' : ℕ) → 0 < c → a + a' ≤ 2 ^ prec f → b + b' ≤ 2 ^ prec f → m ≤ cond s a b * 2 ^ j * c →
+      n ≤ cond t a' b' * 2 ^ j * c → LiesBetween (a + a') (b + b') j (sum f s m t n c)
   unfolding sum
   signs-between s t m n c a b a' b' C few few' h k = go s t h k
     where
@@ -86,12 +97,16 @@ module _ (f : Format) (j : ℕ) (room : prec f + j ≤ emax f) where
       either true n h = round-between true n c (a + a') (b + b') C few h
       either false n h = round-between false n c (a + a') (b + b') C few' h
 
-      plus-minus : (u : Bool) → m ≤ b * 2 ^ j * c → n ≤ a' * 2 ^ j * c → LiesBetween (a + a') (b + b') j (cond u (round f true (n - m) c) (round f false (m - n) c))
+      plus-minus :
+          (u : Bool) → m ≤ b * 2 ^ j * c → n ≤ a' * 2 ^ j * c →
+          LiesBetween (a + a') (b + b') j (cond u (round f true (n - m) c) (round f false (m - n) c))
       plus-minus true h k = either true (n - m) (omega (arith, spread a a'))
       plus-minus false h k = either false (m - n) (omega (arith, spread b b'))
 
       -- equal sizes: the sum is +0
-      minus-plus : (u v : Bool) → ltb n m ≡ v → m ≤ a * 2 ^ j * c → n ≤ b' * 2 ^ j * c → LiesBetween (a + a') (b + b') j (cond u (round f false (n - m) c) (round f v (m - n) c))
+      minus-plus :
+          (u v : Bool) → ltb n m ≡ v → m ≤ a * 2 ^ j * c → n ≤ b' * 2 ^ j * c →
+          LiesBetween (a + a') (b + b') j (cond u (round f false (n - m) c) (round f v (m - n) c))
       minus-plus true v e h k = either false (n - m) (omega (arith, spread b b'))
       minus-plus false true e h k = either true (m - n) (omega (arith, spread a a'))
       minus-plus false false e h k = either false (m - n) (omega (arith, ltb-false))
@@ -102,7 +117,9 @@ module _ (f : Format) (j : ℕ) (room : prec f + j ≤ emax f) where
       go false true h k = plus-minus (ltb m n) h k
       go true false h k = minus-plus (ltb m n) (ltb n m) refl h k
 
-  pub sum-between : {x y : Float} {a b a' b' : ℕ} → Between a b j x → Between a' b' j y → a + a' ≤ 2 ^ prec f → b + b' ≤ 2 ^ prec f → Between (a + a') (b + b') j (add f x y)
+  pub sum-between :
+      {x y : Float} {a b a' b' : ℕ} → Between a b j x → Between a' b' j y → a + a' ≤ 2 ^ prec f → b + b' ≤ 2 ^ prec f →
+      Between (a + a') (b + b') j (add f x y)
   unfolding add
   sum-between {x} {y} {a} {b} {a'} {b'} v w few few' = record { lies = go x y (v .lies) (w .lies) }
     where
@@ -115,7 +132,9 @@ module _ (f : Format) (j : ℕ) (room : prec f + j ≤ emax f) where
           signs-between s t (m * up e * down d) (n * up d * down e) (down e * down d) a b a' b' (mul-pos (down-pos e) (down-pos d)) few few'
           (rw (← mul-assoc) (mul-le-mul-right (down d) h)) (rw (mul-comm (down e), ← mul-assoc) (mul-le-mul-right (down e) k))
 
-  pub difference-between : {x y : Float} {a b a' b' : ℕ} → Between a b j x → Between a' b' j y → a + b' ≤ 2 ^ prec f → b + a' ≤ 2 ^ prec f → Between (a + b') (b + a') j (sub f x y)
+  pub difference-between :
+      {x y : Float} {a b a' b' : ℕ} → Between a b j x → Between a' b' j y → a + b' ≤ 2 ^ prec f → b + a' ≤ 2 ^ prec f →
+      Between (a + b') (b + a') j (sub f x y)
   unfolding sub neg
   difference-between {x} {y} {a} {b} {a'} {b'} v w few few' = sum-between v (record { lies = go y (w .lies) }) few few'
     where
@@ -130,7 +149,9 @@ module _ (f : Format) (j : ℕ) (room : prec f + j ≤ emax f) where
 
 -- ---- squares
 
-pub square-up-to : (f : Format) (j : ℕ) → prec f + (j + j) ≤ emax f → {x : Float} {q : ℕ} → Between q q j x → q * q ≤ 2 ^ prec f → UpTo (q * q) (j + j) (mul f x x)
+pub square-up-to :
+    (f : Format) (j : ℕ) → prec f + (j + j) ≤ emax f → {x : Float} {q : ℕ} → Between q q j x → q * q ≤ 2 ^ prec f →
+    UpTo (q * q) (j + j) (mul f x x)
 unfolding mul
 square-up-to f j room {x} {q} v few = record { lies = go x (v .lies) }
   where
@@ -173,13 +194,16 @@ within-between x h = record { lies = go x h }
     go (inf false) h = absurd (false≢true h)
     go (fin true m e) h =
         not-above (m * up e) (down e)
-        (sym (le-is-not-lt (fin true m e) (neg farthest) refl refl) ∙ both-true (le (neg farthest) (fin true m e)) (le (fin true m e) farthest) h .0)
+        (sym (le-is-not-lt (fin true m e) (neg farthest) refl refl)
+        ∙ both-true (le (neg farthest) (fin true m e)) (le (fin true m e) farthest) h .0)
     go (fin false m e) h =
         not-above (m * up e) (down e)
-        (sym (le-is-not-lt farthest (fin false m e) refl refl) ∙ both-true (le (neg farthest) (fin false m e)) (le (fin false m e) farthest) h .1)
+        (sym (le-is-not-lt farthest (fin false m e) refl refl)
+        ∙ both-true (le (neg farthest) (fin false m e)) (le (fin false m e) farthest) h .1)
 
 -- one square of a cost in symbols, where e is from -1 up to 1
-pub difference-square-up-to : {e : Float} (x : Float) → within x ≡ true → Between 1 1 0 e → UpTo (1025 * 1025) 0 (mul binary32 (sub binary32 x e) (sub binary32 x e))
+pub difference-square-up-to :
+    {e : Float} (x : Float) → within x ≡ true → Between 1 1 0 e → UpTo (1025 * 1025) 0 (mul binary32 (sub binary32 x e) (sub binary32 x e))
 difference-square-up-to x h near =
     square-up-to binary32 0 (lit≤ tt) (difference-between binary32 0 (lit≤ tt) (within-between x h) near (lit≤ tt) (lit≤ tt)) (lit≤ tt)
 

@@ -1,5 +1,5 @@
--- The order of the f32s: `<` as IEEE 754 has it is a strict order over every value, NaN, infinities, both zeros and finite ones, and `≤` is its denial
--- where no NaN stands. Assumes nothing.
+-- The order of the f32s: `<` as IEEE 754 has it is a strict order over every value, NaN, infinities, both zeros and finite ones, and `≤` is
+-- its denial where no NaN stands. Assumes nothing.
 use mathlib.Core.Bool.{Bool, true, false, not, _&&_, _||_, or-not-self}
 use mathlib.Core.Path.{_≡_, refl, sym, ap, _∙_}
 use Prim.Native.Nat.{ℕ, _+_, _*_, _<_}
@@ -34,11 +34,15 @@ below-scale false true a b k K = refl
 below-scale true false a b k K = rw (zero-mul, add-mul) at (ltb-scale 0 (a + b) k K)
 below-scale true true a b k K = ltb-scale b a k K
 
--- Three fractions a / p, b / q, c / u with a sign each. All three go over the denominator p * q * u, and there it is the order of the numerators.
-cross-trans : (s t r : Bool) (a b c p q u : ℕ) → 0 < p → 0 < q → 0 < u → below s (a * q) t (b * p) ≡ true → below t (b * u) r (c * q) ≡ true → below s (a * u) r (c * p) ≡ true
+-- Three fractions a / p, b / q, c / u with a sign each. All three go over the denominator p * q * u, and there it is the order of the
+-- numerators.
+cross-trans :
+    (s t r : Bool) (a b c p q u : ℕ) → 0 < p → 0 < q → 0 < u → below s (a * q) t (b * p) ≡ true → below t (b * u) r (c * q) ≡ true →
+    below s (a * u) r (c * p) ≡ true
 cross-trans s t r a b c p q u P Q U h k =
     let first : below s (a * u * q) t (b * p * u) ≡ true = rw (mul-right-comm a u q) (below-scale s t (a * q) (b * p) u U ∙ h) in
-    let second : below t (b * p * u) r (c * p * q) ≡ true = rw (mul-right-comm b p u, mul-right-comm c p q) (below-scale t r (b * u) (c * q) p P ∙ k) in
+    let second : below t (b * p * u) r (c * p * q) ≡ true =
+    rw (mul-right-comm b p u, mul-right-comm c p q) (below-scale t r (b * u) (c * q) p P ∙ k) in
     sym (below-scale s r (a * u) (c * p) q Q) ∙ below-trans s t r (a * u * q) (b * p * u) (c * p * q) first second
 
 below-irrefl : (s : Bool) (a : ℕ) → below s a s a ≡ false
@@ -103,7 +107,8 @@ lt-trans (fin s m e) (fin t n d) nan h k = cc
 lt-trans (inf s) (fin t n d) (inf r) h k = rw (h, k)
 lt-trans (inf s) (fin t n d) (fin r o c) h k = h
 lt-trans (fin s m e) (fin t n d) (inf r) h k = k
-lt-trans (fin s m e) (fin t n d) (fin r o c) h k = cross-trans s t r (m * up e) (n * up d) (o * up c) (down e) (down d) (down c) (down-pos e) (down-pos d) (down-pos c) h k
+lt-trans (fin s m e) (fin t n d) (fin r o c) h k =
+    cross-trans s t r (m * up e) (n * up d) (o * up c) (down e) (down d) (down c) (down-pos e) (down-pos d) (down-pos c) h k
 
 pub lt-irrefl : (x : Float) → lt x x ≡ false
 unfolding lt

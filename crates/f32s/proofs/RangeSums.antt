@@ -1,9 +1,10 @@
--- Sums and differences of floats in ranges: a sum with a number from 0 on stays at or above p * 2 ^ j, since rounding is monotone and keeps a bound of
--- few digits; a difference of two is at most the difference of the bounds. Assumes nothing.
+-- Sums and differences of floats in ranges: a sum with a number from 0 on stays at or above p * 2 ^ j, since rounding is monotone and keeps
+-- a bound of few digits; a difference of two is at most the difference of the bounds. Assumes nothing.
 use mathlib.Core.Bool.{Bool, true, false, not, cond, true≢false, false≢true}
 use mathlib.Core.Path.{_≡_, refl, sym, subst, _∙_}
 use Prim.Native.Nat.{ℕ, _+_, _-_, _*_, _^_, _≤_, _<_, zero-le}
-use native.Mathlib.Nat.{le-trans, zero-mul, add-mul, mul-assoc, mul-comm, mul-right-comm, mul-pos, mul-le-mul-right, le-of-mul-le-mul-right, eq-of-mul-eq-mul-right}
+use native.Mathlib.Nat.{le-trans, zero-mul, add-mul, mul-assoc, mul-comm, mul-right-comm, mul-pos, mul-le-mul-right}
+use native.Mathlib.Nat.{le-of-mul-le-mul-right, eq-of-mul-eq-mul-right}
 use native.Mathlib.Omega.{arith}
 use borrow.Author.Tests.{ltb-true, not-true}
 use lib.Dec.{T, ltb}
@@ -24,7 +25,9 @@ T-true true h = refl
 T-true false h = absurd h
 
 -- z is no less than y, the number n
-from-le : (y z : Float) (n c q j : ℕ) → 0 < c → HasValue y false (n * c) c → T (le y z) → LiesBetween 0 q j z → (p : ℕ) → n ≡ p * 2 ^ j → SizeFrom p j z
+from-le :
+    (y z : Float) (n c q j : ℕ) → 0 < c → HasValue y false (n * c) c → T (le y z) → LiesBetween 0 q j z → (p : ℕ) → n ≡ p * 2 ^ j →
+    SizeFrom p j z
 unfolding lt isNan
 from-le nan z n c q j C v h k p e = absurd v
 from-le (inf t) z n c q j C v h k p e = absurd v
@@ -39,7 +42,8 @@ from-le (fin false b d) (fin s m e) n c q j C v h k p f =
     le-of-mul-le-mul-right (rw (← f, mul-right-comm n (down e) (down d), ← value) order) (down-pos d)
 
 module _ (f : Format) (j : ℕ) (room : prec f + j ≤ emax f) where
-  round-from : (n c p q : ℕ) → 0 < c → p ≤ 2 ^ prec f → p * 2 ^ j * c ≤ n → LiesBetween 0 q j (round f false n c) → SizeFrom p j (round f false n c)
+  round-from :
+      (n c p q : ℕ) → 0 < c → p ≤ 2 ^ prec f → p * 2 ^ j * c ≤ n → LiesBetween 0 q j (round f false n c) → SizeFrom p j (round f false n c)
   round-from n c p q C few h k =
       from-le (round f false (p * 2 ^ j * c) c) (round f false n c) (p * 2 ^ j) c q j C (bound-exact f j room p c few C)
       (round-mono f (p * 2 ^ j * c) c n c C C (mul-le-mul-right c h)) k p refl
@@ -51,7 +55,9 @@ module _ (f : Format) (j : ℕ) (room : prec f + j ≤ emax f) where
   signs-from false false m n c p q C few h k l = round-from (m + n) c p q C few (omega arith)
   signs-from false true m n c p q C few h k l = go (ltb m n) refl
     where
-      go : (b : Bool) → ltb m n ≡ b → LiesBetween 0 q j (cond b (round f true (n - m) c) (round f false (m - n) c)) → SizeFrom p j (cond b (round f true (n - m) c) (round f false (m - n) c))
+      go :
+          (b : Bool) → ltb m n ≡ b → LiesBetween 0 q j (cond b (round f true (n - m) c) (round f false (m - n) c)) →
+          SizeFrom p j (cond b (round f true (n - m) c) (round f false (m - n) c))
       go true e = absurd (omega (arith, ltb-true m n e, l refl))
       go false e = round-from (m - n) c p q C few (omega (arith, l refl))
   signs-from true t m n c p q C few h k l =
@@ -67,7 +73,9 @@ module _ (f : Format) (j : ℕ) (room : prec f + j ≤ emax f) where
       let less = bounds-ordered j v in
       record { from = go (omega arith) x y (v .from) (v .up-to .lies) (w .lies) (up-to .lies); up-to = up-to }
     where
-      go : p ≤ 2 ^ prec f → (x y : Float) → SizeFrom p j x → LiesBetween 0 q j x → LiesBetween 0 r j y → LiesBetween 0 (q + r) j (add f x y) → SizeFrom p j (add f x y)
+      go :
+          p ≤ 2 ^ prec f → (x y : Float) → SizeFrom p j x → LiesBetween 0 q j x → LiesBetween 0 r j y →
+          LiesBetween 0 (q + r) j (add f x y) → SizeFrom p j (add f x y)
       go few nan y l h k g = l
       go few (inf s) y l h k g = absurd l
       go few (fin s m e) nan l h k g = k
@@ -113,7 +121,8 @@ module _ (f : Format) (j : ℕ) (room : prec f + j ≤ emax f) where
       go true true u v = both-nil (ltb m n) (ltb n m) (u refl)
 
   -- of two numbers from p on up to p + r, the lesser from the other
-  pub difference-range : {x y : Float} {p q r : ℕ} → UpTo (p + r) j x → Range p q j y → lt x y ≡ false → r ≤ 2 ^ prec f → UpTo r j (sub f x y)
+  pub difference-range :
+      {x y : Float} {p q r : ℕ} → UpTo (p + r) j x → Range p q j y → lt x y ≡ false → r ≤ 2 ^ prec f → UpTo r j (sub f x y)
   unfolding sub neg lt add
   difference-range {x} {y} {p} {q} {r} v w e few = record { lies = go x y (v .lies) (w .from) (w .up-to .lies) e }
     where

@@ -2,7 +2,8 @@
 use mathlib.Core.Bool.{Bool, true, false, cond, false≢true}
 use mathlib.Core.Path.{_≡_, refl, ap, _∙_}
 use Prim.Native.Nat.{ℕ, suc, _+_, _*_, _/_, _^_, _≤_, _<_, zero-le}
-use native.Mathlib.Nat.{le-trans, le-of-eq, zero-mul, suc-mul, add-mul, mul-assoc, mul-right-comm, mul-pos, mul-le-mul-right, le-of-mul-le-mul-right, div-mul-le-self, lt-div-mul-add}
+use native.Mathlib.Nat.{le-trans, le-of-eq, zero-mul, suc-mul, add-mul, mul-assoc, mul-right-comm, mul-pos, mul-le-mul-right}
+use native.Mathlib.Nat.{le-of-mul-le-mul-right, div-mul-le-self, lt-div-mul-add}
 use native.Mathlib.Omega.{arith}
 use borrow.Author.Tests.{ltb-false, le-ltb}
 use lib.IntN.{ℤ, pos}
@@ -56,7 +57,8 @@ module _ (j : ℕ) where
       go (fin s m e) (inf t) h k l f = absurd k
       go (fin s m e) (fin t n d) h k l f =
           le-of-mul-le-mul-right
-          (le-trans (le-of-eq (mul-right-comm (p * 2 ^ j) (down e) (down d))) (le-trans (mul-le-mul-right (down e) l) (not-lt-sizes q r s t m n e d h k f)))
+          (le-trans (le-of-eq (mul-right-comm (p * 2 ^ j) (down e) (down d)))
+          (le-trans (mul-le-mul-right (down e) l) (not-lt-sizes q r s t m n e d h k f)))
           (down-pos d)
 
   -- and what a number up to q is not below is up to q
@@ -64,7 +66,9 @@ module _ (j : ℕ) where
   unfolding lt
   up-to-not-above {x} {y} {q} {r} u v e = record { lies = go x y (u .lies) (v .lies) e }
     where
-      bound : (s t : Bool) (n : ℕ) (d : ℤ) → LiesBetween 0 r j (fin t n d) → n * up d ≤ cond s 0 q * 2 ^ j * down d → LiesBetween 0 q j (fin t n d)
+      bound :
+          (s t : Bool) (n : ℕ) (d : ℤ) → LiesBetween 0 r j (fin t n d) → n * up d ≤ cond s 0 q * 2 ^ j * down d →
+          LiesBetween 0 q j (fin t n d)
       bound s true n d k h = k
       bound true false n d k h = le-trans h (rw (zero-mul (2 ^ j), zero-mul (down d)) zero-le)
       bound false false n d k h = h
@@ -77,7 +81,8 @@ module _ (j : ℕ) where
       go (fin s m e) (fin t n d) h k f =
           bound s t n d k
           (le-of-mul-le-mul-right
-          (le-trans (not-lt-sizes q r s t m n e d h k f) (le-trans (mul-le-mul-right (down d) h) (le-of-eq (mul-right-comm (cond s 0 q * 2 ^ j) (down e) (down d)))))
+          (le-trans (not-lt-sizes q r s t m n e d h k f)
+          (le-trans (mul-le-mul-right (down d) h) (le-of-eq (mul-right-comm (cond s 0 q * 2 ^ j) (down e) (down d)))))
           (down-pos e))
 
   -- ---- whole multiples
@@ -117,7 +122,9 @@ module _ (j : ℕ) where
           let under : p * 2 ^ j * down e ≤ m * up e = rw (mul-assoc p (2 ^ j) (down e)) (div-mul-le-self (m * up e) unit) in
           (p, record { from = under; up-to = record { lies = above s p h (omega (arith, lt-div-mul-add {a = m * up e} some)) } })
         where
-          above : (s : Bool) (p : ℕ) → LiesBetween 0 q j (fin s m e) → m * up e ≤ p * (2 ^ j * down e) + 2 ^ j * down e → LiesBetween 0 (suc p) j (fin s m e)
+          above :
+              (s : Bool) (p : ℕ) → LiesBetween 0 q j (fin s m e) → m * up e ≤ p * (2 ^ j * down e) + 2 ^ j * down e →
+              LiesBetween 0 (suc p) j (fin s m e)
           above true p h k = h
           above false p h k = le-trans k (le-of-eq (simp (suc-mul, add-mul, mul-assoc)))
 

@@ -1,5 +1,5 @@
--- Of each entry, any two outcomes that its contract allows are equal. `Post` is the contract: of what the call is given, what it returns, and what it
--- leaves in each argument. Assumes nothing.
+-- Of each entry, any two outcomes that its contract allows are equal. `Post` is the contract: of what the call is given, what it returns,
+-- and what it leaves in each argument. Assumes nothing.
 use mathlib.Core.Bool.{Bool}
 use mathlib.Core.Path.{_≡_, sym, _∙_}
 use Prim.Native.Nat.{ℕ}
@@ -23,7 +23,8 @@ pub from-bytes-determined :
 from-bytes-determined κs given r r' left left' p q = p ∙ sym q
 
 pub from-all-bytes-determined :
-    (κs : _) (given : _) (r r' : ℕ) (left left' : _) → from-all-bytes.Post κs given r left → from-all-bytes.Post κs given r' left' → (r ≡ r') × (left .1 .0 .now ≡ left' .1 .0 .now)
+    (κs : _) (given : _) (r r' : ℕ) (left left' : _) → from-all-bytes.Post κs given r left → from-all-bytes.Post κs given r' left' →
+    (r ≡ r') × (left .1 .0 .now ≡ left' .1 .0 .now)
 from-all-bytes-determined κs given r r' left left' p q = (cc, cc)
 
 pub bits-of-determined :

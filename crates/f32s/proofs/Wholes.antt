@@ -4,7 +4,8 @@
 use mathlib.Core.Bool.{Bool, true, false, not, true≢false}
 use mathlib.Core.Path.{_≡_, refl, sym, ap, ap₂, _∙_}
 use Prim.Native.Nat.{ℕ, zero, suc, _+_, _-_, _*_, _^_, _≤_, _<_}
-use native.Mathlib.Nat.{zero-add, zero-lt-suc, lt-of-le-of-lt, add-mul, zero-mul, mul-one, mul-assoc, mul-comm, mul-sub, mul-pos, eq-of-mul-eq-mul-right}
+use native.Mathlib.Nat.{zero-add, zero-lt-suc, lt-of-le-of-lt, add-mul, zero-mul, mul-one, mul-assoc, mul-comm, mul-sub, mul-pos}
+use native.Mathlib.Nat.{eq-of-mul-eq-mul-right}
 use native.Mathlib.Omega.{arith}
 use borrow.Author.Tests.{ltb-true, ltb-false, lt-ltb}
 use lib.Dec.{lit<, ltb, leb·suc-zero, leb·suc-suc}
@@ -120,7 +121,8 @@ less a b h =
 
 first-larger : (s : Bool) (a b : ℕ) → b ≤ a → withSign s a +ℤ withSign (not s) b ≡ withSign s (a - b)
 first-larger false a b h = less a b h
-first-larger true a b h = sym (negℤ-+ℤ (pos a) (negℤ (pos b)) ∙ ap (λ (z : ℤ). negℤ (pos a) +ℤ z) (negℤ-negℤ (pos b))) ∙ ap negℤ (less a b h)
+first-larger true a b h =
+    sym (negℤ-+ℤ (pos a) (negℤ (pos b)) ∙ ap (λ (z : ℤ). negℤ (pos a) +ℤ z) (negℤ-negℤ (pos b))) ∙ ap negℤ (less a b h)
 
 second-larger : (s : Bool) (a b : ℕ) → a ≤ b → withSign s a +ℤ withSign (not s) b ≡ withSign (not s) (b - a)
 second-larger false a b h = +ℤ-comm (pos a) (negℤ (pos b)) ∙ first-larger true b a h

@@ -1,5 +1,5 @@
--- Floats between two bounds: `Between a b j x` says that x is a number from -a * 2 ^ j up to b * 2 ^ j, and `UpTo q j x` that it is one from 0 up to
--- q * 2 ^ j. Definitions only.
+-- Floats between two bounds: `Between a b j x` says that x is a number from -a * 2 ^ j up to b * 2 ^ j, and `UpTo q j
+-- x` that it is one from 0 up to q * 2 ^ j. Definitions only.
 use mathlib.Core.Bool.{cond}
 use Prim.Native.Nat.{ℕ, _*_, _^_, _≤_}
 use lib.Ieee.{Float, nan, inf, fin, up, down}

@@ -8,8 +8,8 @@ use native.Mathlib.Numerals.{add-one}
 use native.Mathlib.Omega.{arith}
 use lib.ListN.{length, getD, set, length-set, length-replicate}
 use lib.Seq.{getD-set-same, getD-set-other}
-use Rattle.queue.specs.Ring.{Ring, Whole, empty, readAs, putOne, putAll, front, rest, elements, inside}
-use Rattle.queue.specs.Held.{Room}
+use Rattle.queue.specs.Ring.{Ring, InRange, empty, readAs, putOne, putAll, front, rest, elements, inside}
+use Rattle.queue.specs.Inner.{Room}
 
 -- ---- places, going round
 
@@ -54,8 +54,8 @@ module _ (cap : ℕ) (slots : List ℕ) where
 
 -- ---- a new ring, and one that is read
 
-pub empty-whole : {cap : ℕ} → 0 < cap → Whole cap (empty cap)
-empty-whole {cap} some = record { size = length-replicate cap 0; head = some; count = omega arith }
+pub empty-in-range : {cap : ℕ} → 0 < cap → InRange cap (empty cap)
+empty-in-range {cap} some = record { size = length-replicate cap 0; head = some; count = omega arith }
 
 pub inside-empty : (cap : ℕ) → inside cap (empty cap) ≡ []
 unfolding inside
@@ -67,14 +67,14 @@ read-room {cap} some r =
     record { head = mod-lt (r .head) some; count = omega (arith, mod-lt (r .count) {m = cap + 1} (omega arith)) }
 
 -- a whole record is read as it stands
-pub read-whole : {cap : ℕ} {r : Ring} → Whole cap r → readAs cap r ≡ r
-read-whole {cap} {r} w = rw (mod-eq-of-lt (w .head), mod-eq-of-lt {n = r .count} {m = cap + 1} (omega arith))
+pub read-in-range : {cap : ℕ} {r : Ring} → InRange cap r → readAs cap r ≡ r
+read-in-range {cap} {r} w = rw (mod-eq-of-lt (w .head), mod-eq-of-lt {n = r .count} {m = cap + 1} (omega arith))
 
 -- ---- putting in
 
-module _ {cap : ℕ} {r : Ring} (w : Whole cap r) (room : r .count < cap) (v : ℕ) where
-  pub put-whole : Whole cap (putOne cap r v)
-  put-whole = record { size = length-set (r .slots) ((r .head + r .count) % cap) v ∙ w .size; head = w .head; count = omega arith }
+module _ {cap : ℕ} {r : Ring} (w : InRange cap r) (room : r .count < cap) (v : ℕ) where
+  pub put-in-range : InRange cap (putOne cap r v)
+  put-in-range = record { size = length-set (r .slots) ((r .head + r .count) % cap) v ∙ w .size; head = w .head; count = omega arith }
 
   pub inside-put : inside cap (putOne cap r v) ≡ inside cap r ++ v ∷ []
   unfolding inside
@@ -104,26 +104,26 @@ pub put-all-room : {cap : ℕ} {r : Ring} (vs : List ℕ) {n : ℕ} → Room cap
 put-all-room {cap} {r} vs room =
     record { head = rw (put-all-head cap r vs) (room .head); count = omega (arith, put-all-count cap r vs) }
 
-pub put-all-whole : {cap : ℕ} {r : Ring} → Whole cap r → (vs : List ℕ) → r .count + length vs ≤ cap → Whole cap (putAll cap r vs)
+pub put-all-in-range : {cap : ℕ} {r : Ring} → InRange cap r → (vs : List ℕ) → r .count + length vs ≤ cap → InRange cap (putAll cap r vs)
 unfolding putAll
-put-all-whole w [] room = w
-put-all-whole w (v ∷ vs) room = put-all-whole (put-whole w (omega arith) v) vs (omega arith)
+put-all-in-range w [] room = w
+put-all-in-range w (v ∷ vs) room = put-all-in-range (put-in-range w (omega arith) v) vs (omega arith)
 
 pub inside-put-all :
-    {cap : ℕ} {r : Ring} → Whole cap r → (vs : List ℕ) → r .count + length vs ≤ cap →
+    {cap : ℕ} {r : Ring} → InRange cap r → (vs : List ℕ) → r .count + length vs ≤ cap →
     inside cap (putAll cap r vs) ≡ inside cap r ++ vs
 unfolding putAll
 inside-put-all {cap} {r} w [] room = sym (append-nil (inside cap r))
 inside-put-all {cap} {r} w (v ∷ vs) room =
-    inside-put-all (put-whole w (omega arith) v) vs (omega arith)
+    inside-put-all (put-in-range w (omega arith) v) vs (omega arith)
     ∙ ap (λ (xs : List ℕ). xs ++ vs) (inside-put w (omega arith) v)
     ∙ append-assoc (inside cap r) (v ∷ []) vs
 
 -- ---- taking out
 
-module _ {cap : ℕ} {r : Ring} (w : Whole cap r) (some : 0 < r .count) where
-  pub rest-whole : Whole cap (rest cap r)
-  rest-whole = record { size = w .size; head = mod-lt (r .head + 1) (omega arith); count = omega arith }
+module _ {cap : ℕ} {r : Ring} (w : InRange cap r) (some : 0 < r .count) where
+  pub rest-in-range : InRange cap (rest cap r)
+  rest-in-range = record { size = w .size; head = mod-lt (r .head + 1) (omega arith); count = omega arith }
 
   pub inside-rest : inside cap r ≡ front r ∷ inside cap (rest cap r)
   unfolding inside elements

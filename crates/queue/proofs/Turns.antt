@@ -5,7 +5,7 @@ use Prim.Native.Nat.{ℕ, suc, _+_, _-_, _≤_, _<_}
 use native.Mathlib.Nat.{sub-zero}
 use native.Mathlib.Omega.{arith}
 use Rattle.queue.specs.Ring.{Ring, putOne, putAll}
-use Rattle.queue.specs.Held.{Room}
+use Rattle.queue.specs.Inner.{Room}
 
 -- After i turns of n, from `start`, r lacks only the elements of the turns left: `us k` are those of the last k.
 pub record Filling (cap : ℕ) (us : ℕ → List ℕ) (n : ℕ) (start : Ring) (i : ℕ) (r : Ring) : Type 0 where

@@ -4,7 +4,7 @@ use mathlib.Core.Path.{_≡_, sym, ap, _∙_}
 use Prim.Native.Nat.{ℕ}
 use Rattle.queue.specs.declared.BitQueue.{BitQueue}
 use Rattle.queue.specs.declared.CharQueue.{CharQueue}
-use Rattle.queue.specs.Held.{bits, chars}
+use Rattle.queue.specs.Records.{bits, chars}
 use Rattle.queue.specs.Ring.{Ring}
 use Rattle.queue.proofs.BitQueue.new.Reads as bit-new
 use Rattle.queue.proofs.BitQueue.read.Reads as bit-read

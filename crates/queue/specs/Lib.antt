@@ -1,3 +1,4 @@
--- Ring: a queue in an array with a head and a count. Held: the two queues as rings.
+-- Ring: a queue in an array with a head and a count. Records: the two queues as rings. Inner: what the functions ask.
 pub mod Ring
-pub mod Held
+pub mod Records
+pub mod Inner

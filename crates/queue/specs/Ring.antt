@@ -4,13 +4,20 @@ use mathlib.Core.Path.{_≡_}
 use Prim.Native.Nat.{ℕ, zero, suc, _+_, _-_, _%_, _≤_, _<_}
 use lib.ListN.{length, getD, set, replicate}
 
+-- how many bits a queue of bits takes, and how many characters one of characters
+abbrev pub bitRoom : ℕ
+bitRoom = 256
+
+abbrev pub charRoom : ℕ
+charRoom = 64
+
 pub record Ring : Type 0 where
   pub slots : List ℕ
   pub head : ℕ
   pub count : ℕ
 
 -- as many slots as there should be, with the head and the count within them
-pub record Whole (cap : ℕ) (r : Ring) : Type 0 where
+pub record InRange (cap : ℕ) (r : Ring) : Type 0 where
   pub size : length (r .slots) ≡ cap
   pub head : r .head < cap
   pub count : r .count ≤ cap

@@ -1,11 +1,11 @@
 // Two queues in arrays with a head and a count, by value: 256 bits, and 64 characters. Room that is freed
 // by taking out is used again, round the array's end.
 ghost use mathlib.Core.Path.{_≡_};
-ghost use Prim.Native.Nat.{_≤_};
 ghost use lib.ListN.{replicate};
 ghost use Rattle.binary.specs.Digits.{digits};
-ghost use Rattle.queue.specs.Ring.{empty, readAs, putOne, putAll, front, rest};
-ghost use Rattle.queue.specs.Held.{bits, chars, Room, Some};
+ghost use Rattle.queue.specs.Ring.{bitRoom, charRoom, empty, readAs, putOne, putAll, front, rest};
+ghost use Rattle.queue.specs.Records.{bits, chars};
+ghost use Rattle.queue.specs.Inner.{Room, WordRoom, Some};
 
 pub const BITS: usize = 256;
 
@@ -25,7 +25,7 @@ pub struct CharQueue {
 
 impl BitQueue {
     pub fn new() -> BitQueue
-        ensures { λ r. ⌜ bits r ≡ empty 256 ⌝ }
+        ensures { λ r. ⌜ bits r ≡ empty bitRoom ⌝ }
     {
         BitQueue {
             slots: [0; BITS],
@@ -36,7 +36,7 @@ impl BitQueue {
 
     // The queue as it is read, whatever its head and count.
     pub fn read(self) -> BitQueue
-        ensures { λ r. ⌜ bits r ≡ readAs 256 (bits self) ⌝ }
+        ensures { λ r. ⌜ bits r ≡ readAs bitRoom (bits self) ⌝ }
     {
         let slots = self.slots;
         BitQueue {
@@ -48,8 +48,8 @@ impl BitQueue {
 
     // One bit more.
     pub fn put(self, bit: u8) -> BitQueue
-        requires { ⌜ Room 256 (bits self) 1 ⌝ }
-        ensures { λ r. ⌜ bits r ≡ putOne 256 (bits self) bit ⌝ }
+        requires { ⌜ Room bitRoom (bits self) 1 ⌝ }
+        ensures { λ r. ⌜ bits r ≡ putOne bitRoom (bits self) bit ⌝ }
     {
         let mut slots = self.slots;
         let at = (self.head + self.count) % BITS;
@@ -63,8 +63,8 @@ impl BitQueue {
 
     // The same bit n times.
     pub fn put_run(self, bit: u8, n: usize) -> BitQueue
-        requires { ⌜ Room 256 (bits self) n ⌝ }
-        ensures { λ r. ⌜ bits r ≡ putAll 256 (bits self) (replicate n bit) ⌝ }
+        requires { ⌜ Room bitRoom (bits self) n ⌝ }
+        ensures { λ r. ⌜ bits r ≡ putAll bitRoom (bits self) (replicate n bit) ⌝ }
     {
         let mut q = self;
         for _ in 0..n {
@@ -75,9 +75,8 @@ impl BitQueue {
 
     // The len lowest bits of a word, the highest of them first.
     pub fn put_word(self, word: u16, len: u8) -> BitQueue
-        requires { ⌜ len ≤ 16 ⌝ }
-        requires { ⌜ Room 256 (bits self) len ⌝ }
-        ensures { λ r. ⌜ bits r ≡ putAll 256 (bits self) (digits len word) ⌝ }
+        requires { ⌜ WordRoom bitRoom (bits self) len ⌝ }
+        ensures { λ r. ⌜ bits r ≡ putAll bitRoom (bits self) (digits len word) ⌝ }
     {
         let mut q = self;
         for i in 0..len {
@@ -89,7 +88,7 @@ impl BitQueue {
 
     // The bit that is taken out next.
     pub fn front(self) -> u8
-        requires { ⌜ Room 256 (bits self) 0 ⌝ }
+        requires { ⌜ Room bitRoom (bits self) 0 ⌝ }
         ensures { λ r. ⌜ r ≡ front (bits self) ⌝ }
     {
         let slots = self.slots;
@@ -99,8 +98,8 @@ impl BitQueue {
 
     // The queue without that bit.
     pub fn rest(self) -> BitQueue
-        requires { ⌜ Some 256 (bits self) ⌝ }
-        ensures { λ r. ⌜ bits r ≡ rest 256 (bits self) ⌝ }
+        requires { ⌜ Some bitRoom (bits self) ⌝ }
+        ensures { λ r. ⌜ bits r ≡ rest bitRoom (bits self) ⌝ }
     {
         let slots = self.slots;
         BitQueue {
@@ -113,7 +112,7 @@ impl BitQueue {
 
 impl CharQueue {
     pub fn new() -> CharQueue
-        ensures { λ r. ⌜ chars r ≡ empty 64 ⌝ }
+        ensures { λ r. ⌜ chars r ≡ empty charRoom ⌝ }
     {
         CharQueue {
             slots: [0; CHARS],
@@ -124,7 +123,7 @@ impl CharQueue {
 
     // The queue as it is read, whatever its head and count.
     pub fn read(self) -> CharQueue
-        ensures { λ r. ⌜ chars r ≡ readAs 64 (chars self) ⌝ }
+        ensures { λ r. ⌜ chars r ≡ readAs charRoom (chars self) ⌝ }
     {
         let slots = self.slots;
         CharQueue {
@@ -136,8 +135,8 @@ impl CharQueue {
 
     // One character more.
     pub fn put(self, c: u8) -> CharQueue
-        requires { ⌜ Room 64 (chars self) 1 ⌝ }
-        ensures { λ r. ⌜ chars r ≡ putOne 64 (chars self) c ⌝ }
+        requires { ⌜ Room charRoom (chars self) 1 ⌝ }
+        ensures { λ r. ⌜ chars r ≡ putOne charRoom (chars self) c ⌝ }
     {
         let mut slots = self.slots;
         let at = (self.head + self.count) % CHARS;
@@ -151,7 +150,7 @@ impl CharQueue {
 
     // The character that is taken out next.
     pub fn front(self) -> u8
-        requires { ⌜ Room 64 (chars self) 0 ⌝ }
+        requires { ⌜ Room charRoom (chars self) 0 ⌝ }
         ensures { λ r. ⌜ r ≡ front (chars self) ⌝ }
     {
         let slots = self.slots;
@@ -161,8 +160,8 @@ impl CharQueue {
 
     // The queue without that character.
     pub fn rest(self) -> CharQueue
-        requires { ⌜ Some 64 (chars self) ⌝ }
-        ensures { λ r. ⌜ chars r ≡ rest 64 (chars self) ⌝ }
+        requires { ⌜ Some charRoom (chars self) ⌝ }
+        ensures { λ r. ⌜ chars r ≡ rest charRoom (chars self) ⌝ }
     {
         let slots = self.slots;
         CharQueue {

@@ -7,24 +7,26 @@ use native.Mathlib.Omega.{arith}
 use borrow.Author.Tests.{lt-ltb, le-ltb}
 use lib.Dec.{lit<}
 use Rattle.queue.specs.declared.CharQueue.{CharQueue}
-use Rattle.queue.specs.Held.{chars}
-use Rattle.queue.specs.Ring.{Ring, readAs, putOne, putAll}
+use Rattle.queue.specs.Records.{chars}
+use Rattle.queue.specs.Ring.{Ring, readAs, putOne, putAll, charRoom}
 use Rattle.refusal.specs.Answer.{accepted, refused, doneSaid}
 use Rattle.varicode_words.specs.Word.{decodeOf}
-use Rattle.varicode.specs.declared.VaricodeDecoder.{VaricodeDecoder}
-use Rattle.varicode.specs.declared.Fed.{Fed}
-use Rattle.varicode.specs.Held.{reader, Feeds, Joins, Forgets}
+use Rattle.varicode.specs.declared.reader.VaricodeDecoder.{VaricodeDecoder}
+use Rattle.varicode.specs.declared.reader.Pushed.{Pushed}
+use Rattle.varicode.specs.Records.{reader}
+use Rattle.varicode.specs.Promise.{Pushes}
+use Rattle.varicode.specs.Inner.{Joins, Forgets}
 use Rattle.varicode.specs.Reader.{Heard, nothingHeard, ends, letterAt, heardAfter, readHeard}
-use Rattle.varicode.specs.Reader.{Reader, charRoom, brought, noRoom, withLetter, bitSaid, bitLeaves}
+use Rattle.varicode.specs.Reader.{Reader, brought, noRoom, withLetter, bitSaid, bitLeaves}
 use Rattle.varicode.proofs.Takes.{room-for-one}
 
 abbrev made : Heard → Ring → Reader
 made h q = record { heard = h; chars = q }
 
 -- a bit above 1
-pub feeds-bad : (d : VaricodeDecoder) (b : ℕ) (r : Fed) → 1 < b → doneSaid (r .answer) ≡ refused 8 0 → r .decoder ≡ d → Feeds d b r
+pub pushes-bad : (d : VaricodeDecoder) (b : ℕ) (r : Pushed) → 1 < b → doneSaid (r .answer) ≡ refused 8 0 → r .decoder ≡ d → Pushes d b r
 unfolding bitSaid bitLeaves
-feeds-bad d b r h a s = let bad = lt-ltb 1 b h in record { answer = a ∙ rw bad; state = ap reader s ∙ rw bad }
+pushes-bad d b r h a s = let bad = lt-ltb 1 b h in record { answer = a ∙ rw bad; state = ap reader s ∙ rw bad }
 
 -- ---- whether the character fits
 
@@ -46,14 +48,14 @@ module _ (q p : Ring) (read : q ≡ readAs charRoom p) (c : ℕ) where
 
 -- ---- a bit that ends no word joins it
 
-module _ (d : VaricodeDecoder) (b : ℕ) (r : Fed) (bit : b ≤ 1) (goes-on : ends (readHeard (reader d .heard)) b ≡ false) where
+module _ (d : VaricodeDecoder) (b : ℕ) (r : Pushed) (bit : b ≤ 1) (goes-on : ends (readHeard (reader d .heard)) b ≡ false) where
   brings-nothing : brought (reader d) b ≡ []
   unfolding brought letterAt
   brings-nothing = rw goes-on
 
-  pub feeds-joined : doneSaid (r .answer) ≡ accepted tt → Joins d b (r .decoder) → Feeds d b r
+  pub pushes-joined : doneSaid (r .answer) ≡ accepted tt → Joins d b (r .decoder) → Pushes d b r
   unfolding bitSaid bitLeaves heardAfter
-  feeds-joined a j =
+  pushes-joined a j =
       let good = le-ltb 1 b bit in
       let free = room-for-nothing (chars (d .chars)) in
       record {
@@ -64,7 +66,7 @@ module _ (d : VaricodeDecoder) (b : ℕ) (r : Fed) (bit : b ≤ 1) (goes-on : en
 -- ---- the second zero of a gap ends it
 
 module _
-    (d : VaricodeDecoder) (r : Fed) (zero-before : d .«prev_zero» ≡ true) (letter : List ℕ)
+    (d : VaricodeDecoder) (r : Pushed) (zero-before : d .«prev_zero» ≡ true) (letter : List ℕ)
     (looked-up : letter ≡ decodeOf (d .shift / 2) (d .len % 12 - 1)) where
   brings : brought (reader d) 0 ≡ letter
   unfolding brought letterAt
@@ -74,34 +76,34 @@ module _
   unfolding heardAfter
   forgets = rw zero-before
 
-  feeds-refused : noRoom letter (chars (d .chars)) ≡ true → doneSaid (r .answer) ≡ refused 9 0 → r .decoder ≡ d → Feeds d 0 r
+  pushes-refused : noRoom letter (chars (d .chars)) ≡ true → doneSaid (r .answer) ≡ refused 9 0 → r .decoder ≡ d → Pushes d 0 r
   unfolding bitSaid bitLeaves
-  feeds-refused full a s = record { answer = a ∙ rw (brings, full); state = ap reader s ∙ rw (brings, full) }
+  pushes-refused full a s = record { answer = a ∙ rw (brings, full); state = ap reader s ∙ rw (brings, full) }
 
-  feeds-letter :
+  pushes-letter :
       noRoom letter (chars (d .chars)) ≡ false → (q : CharQueue) → chars q ≡ withLetter letter (chars (d .chars)) →
-      doneSaid (r .answer) ≡ accepted tt → Forgets q (r .decoder) → Feeds d 0 r
+      doneSaid (r .answer) ≡ accepted tt → Forgets q (r .decoder) → Pushes d 0 r
   unfolding bitSaid bitLeaves
-  feeds-letter free q behind a f =
+  pushes-letter free q behind a f =
       record {
         answer = a ∙ rw (brings, free);
         state = ap₂ made (f .heard) (ap chars (f .chars) ∙ behind) ∙ rw (brings, free, forgets);
       }
 
-module _ (d : VaricodeDecoder) (r : Fed) (zero-before : d .«prev_zero» ≡ true) where
-  pub feeds-nothing :
-      [] ≡ decodeOf (d .shift / 2) (d .len % 12 - 1) → doneSaid (r .answer) ≡ accepted tt → Forgets (d .chars) (r .decoder) → Feeds d 0 r
-  feeds-nothing none a f = feeds-letter d r zero-before [] none (room-for-nothing (chars (d .chars))) (d .chars) refl a f
+module _ (d : VaricodeDecoder) (r : Pushed) (zero-before : d .«prev_zero» ≡ true) where
+  pub pushes-nothing :
+      [] ≡ decodeOf (d .shift / 2) (d .len % 12 - 1) → doneSaid (r .answer) ≡ accepted tt → Forgets (d .chars) (r .decoder) → Pushes d 0 r
+  pushes-nothing none a f = pushes-letter d r zero-before [] none (room-for-nothing (chars (d .chars))) (d .chars) refl a f
 
   module _
       (c : ℕ) (one : c ∷ [] ≡ decodeOf (d .shift / 2) (d .len % 12 - 1)) (q : Ring) (read : q ≡ readAs charRoom (chars (d .chars))) where
-    pub feeds-full : q .count ≡ charRoom → doneSaid (r .answer) ≡ refused 9 0 → r .decoder ≡ d → Feeds d 0 r
-    feeds-full full a s = feeds-refused d r zero-before (c ∷ []) one (no-room-when-full q (chars (d .chars)) read c full) a s
+    pub pushes-full : q .count ≡ charRoom → doneSaid (r .answer) ≡ refused 9 0 → r .decoder ≡ d → Pushes d 0 r
+    pushes-full full a s = pushes-refused d r zero-before (c ∷ []) one (no-room-when-full q (chars (d .chars)) read c full) a s
 
-    pub feeds-byte :
+    pub pushes-byte :
         (q .count ≡ charRoom → ⊥) → (more : CharQueue) → chars more ≡ putOne charRoom q c → doneSaid (r .answer) ≡ accepted tt →
-        Forgets more (r .decoder) → Feeds d 0 r
+        Forgets more (r .decoder) → Pushes d 0 r
     unfolding putAll
-    feeds-byte free more put a f =
-        feeds-letter d r zero-before (c ∷ []) one (room-when-free q (chars (d .chars)) read c free) more
+    pushes-byte free more put a f =
+        pushes-letter d r zero-before (c ∷ []) one (room-when-free q (chars (d .chars)) read c free) more
         (put ∙ ap (λ (p : Ring). putOne charRoom p c) read) a f

@@ -6,9 +6,9 @@ use Prim.Native.Nat.{ℕ, zero, suc, _+_, _≤_}
 use native.Mathlib.Omega.{arith}
 use borrow.Author.Tests.{le-ltb}
 use lib.ListN.{length}
-use Rattle.queue.specs.Ring.{readAs, front}
+use Rattle.queue.specs.Ring.{readAs, front, bitRoom}
 use Rattle.refusal.specs.Answer.{accepted}
-use Rattle.varicode.specs.Writer.{Writer, Call, bitRoom, bitsPut, tooMany, putSaid}
+use Rattle.varicode.specs.Writer.{Writer, Call, bitsPut, tooMany, putSaid}
 use Rattle.varicode.specs.Runs.{WriterRun, start, puts, takes, Fits, AllFit}
 use Rattle.varicode.proofs.Queues.{front-taken, one-fewer}
 use Rattle.varicode.proofs.WriterRuns.{writer-holds}
@@ -30,8 +30,8 @@ pub record Drained (calls : List Call) : Type 0 where
 drained-of : (n : ℕ) {w : Writer} {calls : List Call} {out : List ℕ} → WriterRun w calls out → w .pending .count ≡ n → Drained calls
 drained-of zero {w} {calls} {out} run e = record { writer = w; sent = out; wrote = run; none = e }
 drained-of (suc n) {w} {calls} {out} run e =
-    let whole = writer-holds run .whole in
-    drained-of n (takes run (front (w .pending)) (front-taken whole e)) (one-fewer whole e)
+    let within = writer-holds run .in-range in
+    drained-of n (takes run (front (w .pending)) (front-taken within e)) (one-fewer within e)
 
 -- after each run everything can be taken out
 pub run-drained : {w : Writer} {calls : List Call} {out : List ℕ} → WriterRun w calls out → Drained calls

@@ -7,10 +7,10 @@ use native.Mathlib.Omega.{arith}
 use borrow.Author.Tests.{le-ltb}
 use lib.ListN.{length}
 use Rattle.binary.proofs.Values.{Bits, more}
-use Rattle.queue.specs.Ring.{Ring, readAs, front}
+use Rattle.queue.specs.Ring.{Ring, readAs, front, charRoom}
 use Rattle.refusal.specs.Answer.{accepted}
 use Rattle.varicode_words.proofs.Search.{either-few, few-decoded}
-use Rattle.varicode.specs.Reader.{Reader, Heard, charRoom, ends, letterAt, readHeard, brought, noRoom, bitSaid}
+use Rattle.varicode.specs.Reader.{Reader, Heard, ends, letterAt, readHeard, brought, noRoom, bitSaid}
 use Rattle.varicode.specs.Runs.{ReaderRun, start, feeds, takes}
 use Rattle.varicode.proofs.Queues.{front-taken, one-fewer}
 use Rattle.varicode.proofs.ReaderRuns.{reader-holds}
@@ -41,8 +41,8 @@ pub record Emptied (bits : List ℕ) : Type 0 where
 emptied-of : (n : ℕ) {r : Reader} {bits out : List ℕ} → ReaderRun r bits out → r .chars .count ≡ n → Emptied bits
 emptied-of zero {r} {bits} {out} run e = record { reader = r; got = out; read = run; none = e }
 emptied-of (suc n) {r} {bits} {out} run e =
-    let whole = reader-holds run .whole in
-    emptied-of n (takes run (front (r .chars)) (front-taken whole e)) (one-fewer whole e)
+    let within = reader-holds run .in-range in
+    emptied-of n (takes run (front (r .chars)) (front-taken within e)) (one-fewer within e)
 
 -- after each run everything can be taken out
 pub run-emptied : {r : Reader} {bits out : List ℕ} → ReaderRun r bits out → Emptied bits

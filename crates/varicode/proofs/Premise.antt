@@ -7,9 +7,9 @@ use Prim.Native.Nat.{ℕ, _+_, _≤_}
 use native.Mathlib.Omega.{arith}
 use lib.ListN.{length}
 use Rattle.binary.proofs.Values.{Bits}
-use Rattle.queue.specs.Ring.{inside, elements}
+use Rattle.queue.specs.Ring.{inside, elements, bitRoom}
 use Rattle.varicode_words.proofs.Facts.{any-word-length}
-use Rattle.varicode.specs.Writer.{Call, opening, byte, closing, gap, bitRoom}
+use Rattle.varicode.specs.Writer.{Call, opening, byte, closing, gap}
 use Rattle.varicode.specs.Runs.{written, Relayed, Fits, AllFit}
 use Rattle.varicode.proofs.Drained.{calls-drained}
 use Rattle.varicode.proofs.Emptied.{bits-emptied}

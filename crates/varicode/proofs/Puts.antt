@@ -10,14 +10,17 @@ use lib.ListN.{length, replicate, length-append, length-replicate}
 use Rattle.binary.specs.Digits.{digits}
 use Rattle.binary.proofs.Values.{length-digits}
 use Rattle.queue.specs.declared.BitQueue.{BitQueue}
-use Rattle.queue.specs.Held.{bits, Room}
-use Rattle.queue.specs.Ring.{Ring, readAs, putAll}
+use Rattle.queue.specs.Inner.{Room}
+use Rattle.queue.specs.Records.{bits}
+use Rattle.queue.specs.Ring.{Ring, readAs, putAll, bitRoom}
 use Rattle.queue.proofs.Rings.{read-room, put-all-append, put-all-room}
 use Rattle.varicode_words.specs.Word.{lengthOf, wordOf, bitsOf}
-use Rattle.varicode.specs.declared.VaricodeEncoder.{VaricodeEncoder}
-use Rattle.varicode.specs.declared.Wrote.{Wrote}
-use Rattle.varicode.specs.Writer.{Call, opening, byte, closing, gap, bitRoom, bitsPut, firstAfter, tooMany, putSaid, putLeaves}
-use Rattle.varicode.specs.Held.{writer, Puts, Writes, Keeps}
+use Rattle.varicode.specs.declared.writer.VaricodeEncoder.{VaricodeEncoder}
+use Rattle.varicode.specs.declared.writer.Wrote.{Wrote}
+use Rattle.varicode.specs.Writer.{Call, opening, byte, closing, gap, bitsPut, firstAfter, tooMany, putSaid, putLeaves}
+use Rattle.varicode.specs.Records.{writer}
+use Rattle.varicode.specs.Promise.{Puts}
+use Rattle.varicode.specs.Inner.{Accepts, Refuses}
 
 -- a queue as it is read is within its array
 pub read-within : (q p : Ring) → q ≡ readAs bitRoom p → Room bitRoom q 0
@@ -52,13 +55,13 @@ module _
   same : leb (q .count + (zeros + n)) bitRoom ≡ leb (held + length put) bitRoom
   same = rw (read, size)
 
-  pub puts-refused : test ≡ false → Keeps e r → Puts e c r
+  pub puts-refused : test ≡ false → Refuses e r → Puts e c r
   unfolding putSaid putLeaves tooMany
   puts-refused f k =
       let full = lt-ltb bitRoom (held + length put) (leb-false _ _ (sym same ∙ sym tested ∙ f)) in
       record { answer = k .answer ∙ rw full; state = ap writer (k .state) ∙ rw full }
 
-  pub puts-done : test ≡ true → (new : BitQueue) → bits new ≡ putAll bitRoom q put → Writes new (firstAfter (e .first) c) r → Puts e c r
+  pub puts-done : test ≡ true → (new : BitQueue) → bits new ≡ putAll bitRoom q put → Accepts new (firstAfter (e .first) c) r → Puts e c r
   unfolding putSaid putLeaves tooMany
   puts-done f new behind w =
       let enough = le-ltb bitRoom (held + length put) (leb-true _ _ (sym same ∙ sym tested ∙ f)) in

@@ -8,12 +8,12 @@ use native.Mathlib.Omega.{arith}
 use borrow.Author.Tests.{ltb-false}
 use lib.Dec.{ltb, lit<}
 use lib.ListN.{length}
-use Rattle.queue.specs.Ring.{Ring, Whole, readAs, putAll, inside}
-use Rattle.queue.proofs.Rings.{empty-whole, inside-empty, read-whole, put-all-whole, inside-put-all}
+use Rattle.queue.specs.Ring.{Ring, InRange, readAs, putAll, inside, charRoom}
+use Rattle.queue.proofs.Rings.{empty-in-range, inside-empty, read-in-range, put-all-in-range, inside-put-all}
 use Rattle.refusal.specs.Answer.{accepted, refuseWhen}
 use Rattle.varicode.specs.Take.{taken, left}
 use Rattle.varicode.specs.Reader.{Heard, nothingHeard, ends, letterAt, heardAfter, joinedTo, lettersFrom, readHeard}
-use Rattle.varicode.specs.Reader.{Reader, charRoom, freshReader, brought, noRoom, withLetter, bitSaid, bitLeaves, charLeaves}
+use Rattle.varicode.specs.Reader.{Reader, freshReader, brought, noRoom, withLetter, bitSaid, bitLeaves, charLeaves}
 use Rattle.varicode.specs.Runs.{ReaderRun, start, feeds, takes, finds-none}
 use Rattle.varicode.proofs.Queues.{handed, kept, behind, accepted-means}
 
@@ -48,29 +48,29 @@ read-short : (h : Heard) → h .len ≤ 11 → readHeard h ≡ h
 read-short h s = ap (λ (n : ℕ). record { shift = h .shift; len = n; prevZero = h .prevZero }) (mod-eq-of-lt (omega arith))
 
 pub record ReaderHolds (r : Reader) (bits out : List ℕ) : Type 0 where
-  pub whole : Whole charRoom (r .chars)
+  pub in-range : InRange charRoom (r .chars)
   pub heard : r .heard ≡ heardAll nothingHeard bits
   pub short : r .heard .len ≤ 11
   pub order : out ++ inside charRoom (r .chars) ≡ lettersFrom nothingHeard bits
 
 -- a character that has room goes behind the others
 record Gained (letter : List ℕ) (q : Ring) : Type 0 where
-  pub whole : Whole charRoom (withLetter letter q)
+  pub in-range : InRange charRoom (withLetter letter q)
   pub order : inside charRoom (withLetter letter q) ≡ inside charRoom q ++ letter
 
-with-letter : (letter : List ℕ) (q : Ring) → Whole charRoom q → withLetter letter q ≡ putAll charRoom q letter
+with-letter : (letter : List ℕ) (q : Ring) → InRange charRoom q → withLetter letter q ≡ putAll charRoom q letter
 unfolding putAll
 with-letter [] q w = refl
-with-letter (c ∷ cs) q w = ap (λ (p : Ring). putAll charRoom p (c ∷ cs)) (read-whole w)
+with-letter (c ∷ cs) q w = ap (λ (p : Ring). putAll charRoom p (c ∷ cs)) (read-in-range w)
 
-gained : (letter : List ℕ) (q : Ring) → Whole charRoom q → noRoom letter q ≡ false → Gained letter q
+gained : (letter : List ℕ) (q : Ring) → InRange charRoom q → noRoom letter q ≡ false → Gained letter q
 unfolding noRoom
 gained letter q w free =
     let same = with-letter letter q w in
-    let held : readAs charRoom q .count ≡ q .count = ap (λ (p : Ring). p .count) (read-whole w) in
+    let held : readAs charRoom q .count ≡ q .count = ap (λ (p : Ring). p .count) (read-in-range w) in
     let room : q .count + length letter ≤ charRoom =
     rw held at (ltb-false charRoom (readAs charRoom q .count + length letter) free) in
-    record { whole = rw same (put-all-whole w letter room); order = rw same (inside-put-all w letter room) }
+    record { in-range = rw same (put-all-in-range w letter room); order = rw same (inside-put-all w letter room) }
 
 abbrev madeReader : Heard → Ring → Reader
 madeReader h q = record { heard = h; chars = q }
@@ -89,10 +89,10 @@ reader-feeds r bits out b h said =
     let new = madeReader (heardAfter (readHeard (r .heard)) b) (withLetter l (r .chars)) in
     let same : bitLeaves r b ≡ new =
     ap₂ (λ (s t : Bool). cond s r (cond t r new)) good free in
-    let more = gained l (r .chars) (h .whole) free in
+    let more = gained l (r .chars) (h .in-range) free in
     rw same
     (record {
-      whole = more .whole;
+      in-range = more .in-range;
       heard = ap (λ (g : Heard). heardAfter g b) now ∙ sym (heard-snoc nothingHeard bits b);
       short = after-short (readHeard (r .heard)) b;
       order =
@@ -106,9 +106,9 @@ reader-takes :
     (r : Reader) (bits out : List ℕ) (v : ℕ) → ReaderHolds r bits out → taken charRoom (r .chars) ≡ v ∷ [] →
     ReaderHolds (charLeaves r) bits (out ++ v ∷ [])
 reader-takes r bits out v h e =
-    let given = handed charRoom (r .chars) (h .whole) v e in
+    let given = handed charRoom (r .chars) (h .in-range) v e in
     record {
-      whole = given .left-whole;
+      in-range = given .left-in-range;
       heard = h .heard;
       short = h .short;
       order = behind out v (inside charRoom (left charRoom (r .chars))) ∙ ap (λ (l : List ℕ). out ++ l) (sym (given .order)) ∙ h .order;
@@ -117,11 +117,11 @@ reader-takes r bits out v h e =
 reader-finds-none :
     (r : Reader) (bits out : List ℕ) → ReaderHolds r bits out → taken charRoom (r .chars) ≡ [] → ReaderHolds (charLeaves r) bits out
 reader-finds-none r bits out h e =
-    subst (λ (q : Ring). ReaderHolds (madeReader (r .heard) q) bits out) (sym (kept charRoom (r .chars) (h .whole) e)) h
+    subst (λ (q : Ring). ReaderHolds (madeReader (r .heard) q) bits out) (sym (kept charRoom (r .chars) (h .in-range) e)) h
 
 pub reader-holds : {r : Reader} {bits out : List ℕ} → ReaderRun r bits out → ReaderHolds r bits out
 unfolding freshReader lettersFrom heardAll
-reader-holds start = record { whole = empty-whole (lit< tt); heard = refl; short = omega arith; order = inside-empty charRoom }
+reader-holds start = record { in-range = empty-in-range (lit< tt); heard = refl; short = omega arith; order = inside-empty charRoom }
 reader-holds (feeds {r} {bits} {out} run b said) = reader-feeds r bits out b (reader-holds run) said
 reader-holds (takes {r} {bits} {out} run v e) = reader-takes r bits out v (reader-holds run) e
 reader-holds (finds-none {r} {bits} {out} run e) = reader-finds-none r bits out (reader-holds run) e

@@ -10,7 +10,7 @@ use native.Mathlib.Omega.{arith}
 use borrow.Author.Tests.{eq-eqb, ne-eqb}
 use lib.Arith.{lt-of-le-ne}
 use lib.Dec.{eqb}
-use Rattle.queue.specs.Held.{Room, Some}
+use Rattle.queue.specs.Inner.{Room, Some}
 use Rattle.queue.specs.Ring.{Ring, readAs, front, rest}
 use Rattle.queue.proofs.Rings.{read-room}
 use Rattle.varicode.specs.Take.{taken, left}
@@ -31,9 +31,9 @@ module _ (cap : ℕ) (some-room : 0 < cap) (q p : Ring) (read : q ≡ readAs cap
     unfolding taken
     taken-nothing = rw (eq-eqb _ 0 (rw same-count at none))
 
-    pub left-whole : left cap p ≡ p
+    pub left-in-range : left cap p ≡ p
     unfolding left
-    left-whole = rw (eq-eqb _ 0 (rw same-count at none))
+    left-in-range = rw (eq-eqb _ 0 (rw same-count at none))
 
   module _ (some : q .count ≡ 0 → ⊥) where
     pub holds-some : Some cap q

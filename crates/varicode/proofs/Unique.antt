@@ -3,25 +3,26 @@
 use mathlib.Core.Path.{_≡_, ap, ap₂, sym, _∙_}
 use Rattle.refusal.proofs.Told.{done-told}
 use Rattle.refusal.specs.declared.Put.{Put}
-use Rattle.varicode.specs.declared.VaricodeEncoder.{VaricodeEncoder}
-use Rattle.varicode.specs.declared.VaricodeDecoder.{VaricodeDecoder}
+use Rattle.varicode.specs.declared.writer.VaricodeEncoder.{VaricodeEncoder}
+use Rattle.varicode.specs.declared.reader.VaricodeDecoder.{VaricodeDecoder}
 use Rattle.varicode.specs.declared.Taken.{Taken}
 use Rattle.varicode.specs.declared.Taken.the-variants as taking
-use Rattle.varicode.specs.declared.Wrote.{Wrote}
-use Rattle.varicode.specs.declared.NextBit.{NextBit}
-use Rattle.varicode.specs.declared.Fed.{Fed}
-use Rattle.varicode.specs.declared.NextChar.{NextChar}
+use Rattle.varicode.specs.declared.writer.Wrote.{Wrote}
+use Rattle.varicode.specs.declared.writer.NextBit.{NextBit}
+use Rattle.varicode.specs.declared.reader.Pushed.{Pushed}
+use Rattle.varicode.specs.declared.reader.NextChar.{NextChar}
 use Rattle.varicode.specs.Writer.{Writer, Call}
 use Rattle.varicode.specs.Reader.{Reader}
-use Rattle.varicode.specs.Held.{writer, reader, takenSaid, Puts}
-use Rattle.varicode.proofs.VaricodeEncoder.new.Reads as new-encoder
-use Rattle.varicode.proofs.VaricodeEncoder.push_preamble.Reads as push-preamble
-use Rattle.varicode.proofs.VaricodeEncoder.push_byte.Reads as push-byte
-use Rattle.varicode.proofs.VaricodeEncoder.push_postamble.Reads as push-postamble
-use Rattle.varicode.proofs.VaricodeEncoder.next_bit.Reads as next-bit
-use Rattle.varicode.proofs.VaricodeDecoder.new.Reads as new-decoder
-use Rattle.varicode.proofs.VaricodeDecoder.push_bit.Reads as push-bit
-use Rattle.varicode.proofs.VaricodeDecoder.pop_char.Reads as pop-char
+use Rattle.varicode.specs.Records.{writer, reader, takenSaid}
+use Rattle.varicode.specs.Promise.{Puts}
+use Rattle.varicode.proofs.writer.VaricodeEncoder.new.Reads as new-encoder
+use Rattle.varicode.proofs.writer.VaricodeEncoder.push_preamble.Reads as push-preamble
+use Rattle.varicode.proofs.writer.VaricodeEncoder.push_byte.Reads as push-byte
+use Rattle.varicode.proofs.writer.VaricodeEncoder.push_postamble.Reads as push-postamble
+use Rattle.varicode.proofs.writer.VaricodeEncoder.next_bit.Reads as next-bit
+use Rattle.varicode.proofs.reader.VaricodeDecoder.new.Reads as new-decoder
+use Rattle.varicode.proofs.reader.VaricodeDecoder.push_bit.Reads as push-bit
+use Rattle.varicode.proofs.reader.VaricodeDecoder.pop_char.Reads as pop-char
 
 -- an answer is fixed by what is said of it
 pub taken-told : (a b : Taken) → takenSaid a ≡ takenSaid b → a ≡ b
@@ -96,13 +97,13 @@ pub new-decoder-determined :
     new-decoder.Post κs given r left → new-decoder.Post κs given r' left' → r ≡ r'
 new-decoder-determined κs given r r' left left' p q = reader-told r r' (p ∙ sym q)
 
-abbrev fed : Put → VaricodeDecoder → Fed
-fed a d = record { answer = a; decoder = d }
+abbrev pushed : Put → VaricodeDecoder → Pushed
+pushed a d = record { answer = a; decoder = d }
 
 pub push-bit-determined :
-    (κs : _) (given : _) (r r' : Fed) (left left' : _) → push-bit.Post κs given r left → push-bit.Post κs given r' left' → r ≡ r'
+    (κs : _) (given : _) (r r' : Pushed) (left left' : _) → push-bit.Post κs given r left → push-bit.Post κs given r' left' → r ≡ r'
 push-bit-determined κs given r r' left left' p q =
-    ap₂ fed (done-told (r .answer) (r' .answer) (p .answer ∙ sym (q .answer)))
+    ap₂ pushed (done-told (r .answer) (r' .answer) (p .answer ∙ sym (q .answer)))
     (reader-told (r .decoder) (r' .decoder) (p .state ∙ sym (q .state)))
 
 abbrev nextChar : Taken → VaricodeDecoder → NextChar

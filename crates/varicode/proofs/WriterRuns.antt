@@ -6,12 +6,12 @@ use Prim.Native.Nat.{ℕ, _+_, _≤_}
 use borrow.Author.Tests.{ltb-false}
 use lib.Dec.{ltb, lit<}
 use lib.ListN.{length}
-use Rattle.queue.specs.Ring.{Ring, Whole, readAs, putAll, inside}
-use Rattle.queue.proofs.Rings.{empty-whole, inside-empty, read-whole, put-all-whole, inside-put-all}
+use Rattle.queue.specs.Ring.{Ring, InRange, readAs, putAll, inside, bitRoom}
+use Rattle.queue.proofs.Rings.{empty-in-range, inside-empty, read-in-range, put-all-in-range, inside-put-all}
 use Rattle.refusal.specs.Answer.{accepted}
 use Rattle.varicode.specs.Take.{taken, left}
 use Rattle.varicode.specs.Writer.{Call, bitsPut, firstAfter, streamFrom}
-use Rattle.varicode.specs.Writer.{Writer, bitRoom, freshWriter, tooMany, putSaid, putLeaves, nextLeaves}
+use Rattle.varicode.specs.Writer.{Writer, freshWriter, tooMany, putSaid, putLeaves, nextLeaves}
 use Rattle.varicode.specs.Runs.{WriterRun, start, puts, takes, finds-none}
 use Rattle.varicode.proofs.Queues.{handed, kept, behind, accepted-means}
 
@@ -36,7 +36,7 @@ stream-snoc first (d ∷ calls) c =
 
 -- what holds of a writer that a run ends in
 pub record WriterHolds (w : Writer) (calls : List Call) (out : List ℕ) : Type 0 where
-  pub whole : Whole bitRoom (w .pending)
+  pub in-range : InRange bitRoom (w .pending)
   pub flag : w .first ≡ firstAll true calls
   pub order : out ++ inside bitRoom (w .pending) ≡ streamFrom true calls
 
@@ -49,7 +49,7 @@ writer-puts :
 unfolding putSaid putLeaves tooMany
 writer-puts w calls out c h said =
     let bits = bitsPut (w .first) c in
-    let read = read-whole (h .whole) in
+    let read = read-in-range (h .in-range) in
     let free = accepted-means 9 (ltb bitRoom (readAs bitRoom (w .pending) .count + length bits)) (accepted tt) said in
     let held : readAs bitRoom (w .pending) .count ≡ w .pending .count = ap (λ (q : Ring). q .count) read in
     let room : w .pending .count + length bits ≤ bitRoom =
@@ -58,10 +58,10 @@ writer-puts w calls out c h said =
     rw free (ap (λ (q : Ring). madeWriter (putAll bitRoom q bits) (firstAfter (w .first) c)) read) in
     rw same
     (record {
-      whole = put-all-whole (h .whole) bits room;
+      in-range = put-all-in-range (h .in-range) bits room;
       flag = ap (λ (b : Bool). firstAfter b c) (h .flag) ∙ sym (first-snoc true calls c);
       order =
-          ap (λ (l : List ℕ). out ++ l) (inside-put-all (h .whole) bits room)
+          ap (λ (l : List ℕ). out ++ l) (inside-put-all (h .in-range) bits room)
           ∙ sym (append-assoc out (inside bitRoom (w .pending)) bits)
           ∙ ap₂ (λ (l : List ℕ) (b : Bool). l ++ bitsPut b c) (h .order) (h .flag)
           ∙ sym (stream-snoc true calls c);
@@ -71,9 +71,9 @@ writer-takes :
     (w : Writer) (calls : List Call) (out : List ℕ) (v : ℕ) → WriterHolds w calls out → taken bitRoom (w .pending) ≡ v ∷ [] →
     WriterHolds (nextLeaves w) calls (out ++ v ∷ [])
 writer-takes w calls out v h e =
-    let given = handed bitRoom (w .pending) (h .whole) v e in
+    let given = handed bitRoom (w .pending) (h .in-range) v e in
     record {
-      whole = given .left-whole;
+      in-range = given .left-in-range;
       flag = h .flag;
       order = behind out v (inside bitRoom (left bitRoom (w .pending))) ∙ ap (λ (l : List ℕ). out ++ l) (sym (given .order)) ∙ h .order;
     }
@@ -82,11 +82,11 @@ writer-finds-none :
     (w : Writer) (calls : List Call) (out : List ℕ) → WriterHolds w calls out → taken bitRoom (w .pending) ≡ [] →
     WriterHolds (nextLeaves w) calls out
 writer-finds-none w calls out h e =
-    subst (λ (q : Ring). WriterHolds (madeWriter q (w .first)) calls out) (sym (kept bitRoom (w .pending) (h .whole) e)) h
+    subst (λ (q : Ring). WriterHolds (madeWriter q (w .first)) calls out) (sym (kept bitRoom (w .pending) (h .in-range) e)) h
 
 pub writer-holds : {w : Writer} {calls : List Call} {out : List ℕ} → WriterRun w calls out → WriterHolds w calls out
 unfolding freshWriter streamFrom firstAll
-writer-holds start = record { whole = empty-whole (lit< tt); flag = refl; order = inside-empty bitRoom }
+writer-holds start = record { in-range = empty-in-range (lit< tt); flag = refl; order = inside-empty bitRoom }
 writer-holds (puts {w} {calls} {out} r c said) = writer-puts w calls out c (writer-holds r) said
 writer-holds (takes {w} {calls} {out} r v e) = writer-takes w calls out v (writer-holds r) e
 writer-holds (finds-none {w} {calls} {out} r e) = writer-finds-none w calls out (writer-holds r) e

@@ -5,7 +5,7 @@ use Prim.Native.Nat.{ℕ, _+_, _-_, _*_, _/_, _%_, min}
 use lib.Dec.{ltb, eqb}
 use lib.ListN.{length}
 use Rattle.refusal.specs.Answer.{Said, accepted, refuseWhen}
-use Rattle.queue.specs.Ring.{Ring, empty, readAs, putAll}
+use Rattle.queue.specs.Ring.{Ring, empty, readAs, putAll, charRoom}
 use Rattle.varicode_words.specs.Word.{decodeOf}
 use Rattle.varicode.specs.Take.{left}
 
@@ -45,9 +45,6 @@ lettersFrom h (b ∷ bs) = letterAt h b ++ lettersFrom (heardAfter h b) bs
 pub record Reader : Type 0 where
   pub heard : Heard
   pub chars : Ring
-
-abbrev pub charRoom : ℕ
-charRoom = 64
 
 unfoldable pub freshReader : Reader
 freshReader = record { heard = nothingHeard; chars = empty charRoom }

@@ -5,12 +5,12 @@ use mathlib.Core.List.{List, [], _∷_, _++_, map}
 use mathlib.Core.Path.{_≡_}
 use Prim.Native.Nat.{ℕ, _*_, _≤_, _<_}
 use lib.ListN.{length}
-use Rattle.queue.specs.Ring.{inside}
+use Rattle.queue.specs.Ring.{inside, bitRoom, charRoom}
 use Rattle.refusal.specs.Answer.{accepted}
 use Rattle.varicode.specs.Take.{taken}
-use Rattle.varicode.specs.Writer.{Writer, bitRoom, freshWriter, putSaid, putLeaves, nextLeaves}
+use Rattle.varicode.specs.Writer.{Writer, freshWriter, putSaid, putLeaves, nextLeaves}
 use Rattle.varicode.specs.Writer.{Call, opening, byte, closing, bitsPut}
-use Rattle.varicode.specs.Reader.{Reader, charRoom, freshReader, bitSaid, bitLeaves, charLeaves}
+use Rattle.varicode.specs.Reader.{Reader, freshReader, bitSaid, bitLeaves, charLeaves}
 
 -- the writer that the run ends in, the calls that put bits, and the bits that were taken out, each in order
 pub data WriterRun : Writer → List Call → List ℕ → Type 0 where

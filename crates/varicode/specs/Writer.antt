@@ -5,7 +5,7 @@ use Prim.Native.Nat.{ℕ, _+_}
 use lib.Dec.{ltb}
 use lib.ListN.{length, replicate}
 use Rattle.refusal.specs.Answer.{Said, accepted, refuseWhen}
-use Rattle.queue.specs.Ring.{Ring, empty, readAs, putAll}
+use Rattle.queue.specs.Ring.{Ring, empty, readAs, putAll, bitRoom}
 use Rattle.varicode_words.specs.Word.{wordOf, bitsOf}
 use Rattle.varicode.specs.Take.{left}
 
@@ -43,9 +43,6 @@ streamFrom first (c ∷ cs) = bitsPut first c ++ streamFrom (firstAfter first c)
 pub record Writer : Type 0 where
   pub pending : Ring
   pub first : Bool
-
-abbrev pub bitRoom : ℕ
-bitRoom = 256
 
 unfoldable pub freshWriter : Writer
 freshWriter = record { pending = empty bitRoom; first = true }

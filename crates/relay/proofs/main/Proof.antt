@@ -28,7 +28,8 @@ array-share-prefix-bytes : tie.Need-array-share-prefix-bytes
 array-share-prefix-bytes c = count-within _ (c .before .answer .result) (c .before .answer .ensures)
 
 slice-aggregate-write-all : tie.Need-slice-aggregate-write-all
-slice-aggregate-write-all c = sym (length-take-le _ _ (count-within _ (c .before .before .answer .result) (c .before .before .answer .ensures)))
+slice-aggregate-write-all c =
+    sym (length-take-le _ _ (count-within _ (c .before .before .answer .result) (c .before .before .answer .ensures)))
 
 write-all-requires : tie.Need-write-all-requires
 write-all-requires c κs = search needs

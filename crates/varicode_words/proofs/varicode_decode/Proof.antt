@@ -26,9 +26,12 @@ cast-byte c = search needs
 
 returns : tie.Need-returns Inv-loop μ-loop
 returns c =
-    let met = c .before .before .before .before in
-    let so-far = met .before .before .loop in
-    sym (so-far .inv ∙ found-here (so-far .i) _ _ (omega arith) _ (met .word-at .ensures) (c .before .before .if1 .taken) (c .if2 .taken))
+    let same : tie.Then1 Inv-loop μ-loop = search in
+    let met : tie.After-word-at Inv-loop μ-loop = search in
+    let so-far : tie.At-loop Inv-loop μ-loop = search in
+    sym
+    (so-far .loop .inv
+    ∙ found-here (so-far .loop .i) _ _ (omega arith) _ (met .word-at .ensures) (same .if1 .taken) (c .if2 .taken))
 
 add-i : tie.Need-add-i Inv-loop μ-loop
 add-i c = omega arith

@@ -3,13 +3,14 @@ use mathlib.Core.Path.{refl}
 use Prim.Native.Nat.{ℕ, _-_}
 use native.Mathlib.Omega.{arith}
 use lib.ListN.{replicate}
-use Rattle.queue.specs.Held.{bits}
+use Rattle.queue.specs.Ring.{bitRoom}
+use Rattle.queue.specs.Records.{bits}
 use Rattle.queue.proofs.Turns.{Filling, filling-starts, filling-room, filling-goes-on, filling-ends}
 use Rattle.queue.proofs.BitQueue.put_run.Statement.{statement}
 use Rattle.queue.proofs.BitQueue.put_run.Tie as tie
 
 abbrev Inv-loop : tie.InvT-loop
-Inv-loop bit n q₀ counter₀ q counter = Filling 256 (λ (k : ℕ). replicate k bit) n (bits q₀) counter (bits q)
+Inv-loop bit n q₀ counter₀ q counter = Filling bitRoom (λ (k : ℕ). replicate k bit) n (bits q₀) counter (bits q)
 
 abbrev μ-loop : tie.MeasureT-loop
 μ-loop bit n q₀ counter₀ q counter = n - counter

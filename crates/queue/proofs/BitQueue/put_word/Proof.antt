@@ -3,19 +3,20 @@ use mathlib.Core.Path.{refl}
 use Prim.Native.Nat.{ℕ, _-_}
 use native.Mathlib.Omega.{arith}
 use Rattle.binary.specs.Digits.{digits}
-use Rattle.queue.specs.Held.{bits}
+use Rattle.queue.specs.Ring.{bitRoom}
+use Rattle.queue.specs.Records.{bits}
 use Rattle.queue.proofs.Turns.{Filling, filling-starts, filling-room, filling-goes-on, filling-ends}
 use Rattle.queue.proofs.BitQueue.put_word.Statement.{statement}
 use Rattle.queue.proofs.BitQueue.put_word.Tie as tie
 
 abbrev Inv-loop : tie.InvT-loop
-Inv-loop word len q₀ i₀ q i = Filling 256 (λ (k : ℕ). digits k word) len (bits q₀) i (bits q)
+Inv-loop word len q₀ i₀ q i = Filling bitRoom (λ (k : ℕ). digits k word) len (bits q₀) i (bits q)
 
 abbrev μ-loop : tie.MeasureT-loop
 μ-loop word len q₀ i₀ q i = len - i
 
 loop-holds : tie.Need-loop-holds Inv-loop μ-loop
-loop-holds c = filling-starts _ (c .pre .1)
+loop-holds c = filling-starts _ (c .pre .room)
 
 add-place : tie.Need-add-place Inv-loop μ-loop
 add-place c = omega arith
