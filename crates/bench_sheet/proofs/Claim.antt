@@ -12,7 +12,7 @@ use Rattle.binary.specs.Digits.{digits}
 use Rattle.readings.specs.Decode.{mets, froms, word, score}
 use Rattle.readings.specs.Places.{place0, place1}
 use Rattle.readings.specs.Sums.{correlation, gain}
-use Rattle.trellis.specs.Choice.{patternOf}
+use Rattle.trellis.specs.Choice.{codeOf, patternOf}
 use Rattle.trellis.specs.Codeword.{windowAt, coded0, coded1, sentBy, lowestBits, zeroTailed, codeword}
 use Rattle.trellis.specs.Keep.{keepsBy, keptOf, keptThrough, onesOf, codedLength}
 use Rattle.trellis.specs.Register.{tapped, codedBit, shifted, registerAfter}
@@ -28,7 +28,7 @@ abbrev lineAt : ℕ → Line
 lineAt n = getD sheet n (reads [] [])
 
 pub claim : AllHold sheet
-unfolding agreement digits tapped codedBit shifted registerAfter keepsBy keptOf keptThrough onesOf codedLength windowAt coded0 coded1 sentBy lowestBits zeroTailed codeword patternOf lengthOf wordOf bitsOf found decodeOf letterAt heardAfter lettersFrom bitsPut firstAfter streamFrom relaxed visit visits step stepFrom metsAfter survivors traced parityOf nextState place0 place1 correlation gain mets froms word score ones ofBits add sub neg lt le
+unfolding agreement digits tapped codedBit shifted registerAfter keepsBy keptOf keptThrough onesOf codedLength windowAt coded0 coded1 sentBy lowestBits zeroTailed codeword codeOf patternOf lengthOf wordOf bitsOf found decodeOf letterAt heardAfter lettersFrom bitsPut firstAfter streamFrom relaxed visit visits step stepFrom metsAfter survivors traced parityOf nextState place0 place1 correlation gain mets froms word score ones ofBits add sub neg lt le
 claim =
     more (holds (lineAt 0) refl)
     (more (holds (lineAt 1) refl)

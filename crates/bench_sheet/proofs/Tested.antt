@@ -7,7 +7,7 @@ use lib.Dec.{T}
 use lib.ListN.{length}
 use Rattle.best_word.specs.Claim.{scoreOf}
 use Rattle.readings.specs.Decode.{word, score}
-use Rattle.trellis.specs.Choice.{patternOf}
+use Rattle.trellis.specs.Choice.{codeOf, patternOf}
 use Rattle.trellis.specs.Codeword.{stepsOf, codeword}
 use Rattle.trellis.specs.Keep.{codedLength}
 use Rattle.varicode_words.proofs.Table.{same, same-equal}
@@ -21,12 +21,12 @@ equal xs ys e = same-equal xs ys (subst T (sym e) tt)
 
 -- what `Holds` says, as a test that comes to true; a score is one number, and is compared as it is
 abbrev pub Passes : Line → Type 0
-Passes (coded code rate info bits) = same (codeword code (patternOf rate) info) bits ≡ true
+Passes (coded code rate info bits) = same (codeword (codeOf code) (patternOf code rate) info) bits ≡ true
 Passes (lengths code count atRates) =
-    same (map (λ (rate : ℕ). codedLength (patternOf rate) (stepsOf code count)) (0 ∷ 1 ∷ 2 ∷ 3 ∷ 4 ∷ [])) atRates ≡ true
-Passes (decodes code rate heard bits) = same (word code (patternOf rate) heard (length bits)) bits ≡ true
-Passes (scores code rate count heard is) = score code (patternOf rate) heard count ≡ is
-Passes (ties code rate count whole u v) = scoreOf code (patternOf rate) count u whole ≡ scoreOf code (patternOf rate) count v whole
+    same (map (λ (rate : ℕ). codedLength (patternOf code rate) (stepsOf (codeOf code) count)) (0 ∷ 1 ∷ 2 ∷ 3 ∷ 4 ∷ [])) atRates ≡ true
+Passes (decodes code rate heard bits) = same (word (codeOf code) (patternOf code rate) heard (length bits)) bits ≡ true
+Passes (scores code rate count heard is) = score (codeOf code) (patternOf code rate) heard count ≡ is
+Passes (ties code rate count whole u v) = scoreOf (codeOf code) (patternOf code rate) count u whole ≡ scoreOf (codeOf code) (patternOf code rate) count v whole
 Passes (writes text bits) = same (streamFrom true (map byte text)) bits ≡ true
 Passes (reads bits text) = same (lettersFrom nothingHeard bits) text ≡ true
 

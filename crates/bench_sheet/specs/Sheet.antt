@@ -9,8 +9,7 @@ use lib.ListN.{length}
 use Rattle.best_word.specs.Claim.{scoreOf}
 use Rattle.f32s.specs.Single.{zero32}
 use Rattle.readings.specs.Decode.{word, score}
-use Rattle.trellis.specs.declared.ConvCode.{ConvCode}
-use Rattle.trellis.specs.Choice.{k5, k7, patternOf}
+use Rattle.trellis.specs.Choice.{codeOf, patternOf}
 use Rattle.trellis.specs.Codeword.{stepsOf, codeword}
 use Rattle.trellis.specs.Keep.{codedLength}
 use Rattle.varicode.specs.Reader.{nothingHeard, lettersFrom}
@@ -19,21 +18,21 @@ use Rattle.varicode.specs.Writer.{byte, streamFrom}
 -- a line: the coded bits of an info word at a rate; the coded lengths of an info count at the five rates; the word, and the score, that readings are
 -- decoded to; the bits that a fresh writer puts for a text; the characters that a fresh reader takes from bits
 pub data Line : Type 0 where
-  coded : (code : ConvCode) (rate : ℕ) (info bits : List ℕ) → Line
-  lengths : (code : ConvCode) (count : ℕ) (atRates : List ℕ) → Line
-  decodes : (code : ConvCode) (rate : ℕ) (heard : List Float) (bits : List ℕ) → Line
-  scores : (code : ConvCode) (rate count : ℕ) (heard : List Float) (is : Float) → Line
-  ties : (code : ConvCode) (rate count : ℕ) (whole : List ℤ) (u v : List ℕ) → Line
+  coded : (code rate : ℕ) (info bits : List ℕ) → Line
+  lengths : (code count : ℕ) (atRates : List ℕ) → Line
+  decodes : (code rate : ℕ) (heard : List Float) (bits : List ℕ) → Line
+  scores : (code rate count : ℕ) (heard : List Float) (is : Float) → Line
+  ties : (code rate count : ℕ) (whole : List ℤ) (u v : List ℕ) → Line
   writes : (text bits : List ℕ) → Line
   reads : (bits text : List ℕ) → Line
 
 abbrev pub Holds : Line → Type 0
-Holds (coded code rate info bits) = codeword code (patternOf rate) info ≡ bits
+Holds (coded code rate info bits) = codeword (codeOf code) (patternOf code rate) info ≡ bits
 Holds (lengths code count atRates) =
-    map (λ (rate : ℕ). codedLength (patternOf rate) (stepsOf code count)) (0 ∷ 1 ∷ 2 ∷ 3 ∷ 4 ∷ []) ≡ atRates
-Holds (decodes code rate heard bits) = word code (patternOf rate) heard (length bits) ≡ bits
-Holds (scores code rate count heard is) = score code (patternOf rate) heard count ≡ is
-Holds (ties code rate count whole u v) = scoreOf code (patternOf rate) count u whole ≡ scoreOf code (patternOf rate) count v whole
+    map (λ (rate : ℕ). codedLength (patternOf code rate) (stepsOf (codeOf code) count)) (0 ∷ 1 ∷ 2 ∷ 3 ∷ 4 ∷ []) ≡ atRates
+Holds (decodes code rate heard bits) = word (codeOf code) (patternOf code rate) heard (length bits) ≡ bits
+Holds (scores code rate count heard is) = score (codeOf code) (patternOf code rate) heard count ≡ is
+Holds (ties code rate count whole u v) = scoreOf (codeOf code) (patternOf code rate) count u whole ≡ scoreOf (codeOf code) (patternOf code rate) count v whole
 Holds (writes text bits) = streamFrom true (map byte text) ≡ bits
 Holds (reads bits text) = lettersFrom nothingHeard bits ≡ text
 
@@ -48,6 +47,13 @@ one = ofBits binary32 0x3f80_0000
 
 abbrev minusOne : Float
 minusOne = ofBits binary32 0xbf80_0000
+
+-- codes by their numbers
+abbrev k5 : ℕ
+k5 = 0
+
+abbrev k7 : ℕ
+k7 = 1
 
 -- letters by their bytes
 abbrev e : ℕ

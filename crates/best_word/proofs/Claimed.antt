@@ -111,7 +111,7 @@ best-word-wins code some p good info readings zs exact =
 -- the codes and keep patterns of the tables
 pub decoded-word-wins :
     (code rate info : ℕ) (readings : List Float) (zs : List ℤ) →
-    Exact (codeOf code) (patternOf rate) info readings zs →
-    Claim (codeOf code) (patternOf rate) info zs
-    (word (codeOf code) (patternOf rate) readings info) (score (codeOf code) (patternOf rate) readings info)
-decoded-word-wins code rate = best-word-wins (codeOf code) (code-narrow code .some) (patternOf rate) (rate-pattern rate)
+    Exact (codeOf code) (patternOf code rate) info readings zs →
+    Claim (codeOf code) (patternOf code rate) info zs
+    (word (codeOf code) (patternOf code rate) readings info) (score (codeOf code) (patternOf code rate) readings info)
+decoded-word-wins code rate = best-word-wins (codeOf code) (code-narrow code .some) (patternOf code rate) (rate-pattern code rate)

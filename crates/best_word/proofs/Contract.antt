@@ -46,20 +46,20 @@ module _ (code rate info : ℕ) (readings : List Float) (room scratch : ℕ) whe
   said = decodeSaid code rate info readings room scratch
 
   abbrev decoded : List ℕ
-  decoded = word (codeOf code) (patternOf rate) readings info
+  decoded = word (codeOf code) (patternOf code rate) readings info
 
   abbrev used : List Float
-  used = take (codedLength (patternOf rate) (stepsOf (codeOf code) info)) readings
+  used = take (codedLength (patternOf code rate) (stepsOf (codeOf code) info)) readings
 
   written : (s : Float) → said ≡ accepted s → (new old : List ℕ) → new ≡ leaves said decoded old → take info new ≡ decoded
   unfolding over
   written s accepts new old e =
       ap (take info) (e ∙ ap (λ (a : Said Float). leaves a decoded old) accepts)
-      ∙ take-at decoded _ info (length-word (codeOf code) (patternOf rate) readings info)
+      ∙ take-at decoded _ info (length-word (codeOf code) (patternOf code rate) readings info)
 
   -- whole readings are finite
   finite-used :
-      (zs : List ℤ) → Exact (codeOf code) (patternOf rate) info readings zs → (rest : Said Float) → examined used rest ≡ rest
+      (zs : List ℤ) → Exact (codeOf code) (patternOf code rate) info readings zs → (rest : Said Float) → examined used rest ≡ rest
   finite-used zs exact rest =
       let whole = exact .whole in
       let all = all-good finite used (λ i h. whole-finite (whole .each i (omega (arith, whole .sized)))) in
@@ -67,15 +67,15 @@ module _ (code rate info : ℕ) (readings : List Float) (room scratch : ℕ) whe
 
   -- so no test is left that refuses with 6
   none-6 :
-      (zs : List ℤ) → Exact (codeOf code) (patternOf rate) info readings zs → (place : ℕ) → said ≡ refused 6 place → ⊥
+      (zs : List ℤ) → Exact (codeOf code) (patternOf code rate) info readings zs → (place : ℕ) → said ≡ refused 6 place → ⊥
   unfolding decodeSaid
   none-6 zs exact place e =
       let known-code = past-other (not (knownCode code)) 1 6 place _ (λ h. omega arith) e in
-      let known-rate = past-other (not (knownRate rate)) 2 6 place _ (λ h. omega arith) known-code in
+      let known-rate = past-other (not (knownRate code rate)) 2 6 place _ (λ h. omega arith) known-code in
       let few = past-other (ltb most info) 3 6 place _ (λ h. omega arith) known-rate in
       let fits = past-other (ltb room info) 4 6 place _ (λ h. omega arith) few in
       let rows-fit = past-other (ltb scratch (survivorsOf code info)) 5 6 place _ (λ h. omega arith) fits in
-      let never : _≡_ {A = ℕ} 0 1 = cc (finite-used zs exact (accepted (score (codeOf code) (patternOf rate) readings info))) in
+      let never : _≡_ {A = ℕ} 0 1 = cc (finite-used zs exact (accepted (score (codeOf code) (patternOf code rate) readings info))) in
       omega arith
 
 -- ---- of the promise

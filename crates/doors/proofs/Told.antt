@@ -9,7 +9,7 @@ use borrow.Author.Tests.{ltb-false}
 use lib.Dec.{ltb}
 use lib.Ieee.{Float, binary32, toBits}
 use lib.ListN.{length, take, length-take}
-use Rattle.encoder.specs.Encode.{lengthOf, checked, written, lengthSaid, encodeSaid, plainSaid}
+use Rattle.encoder.specs.Encode.{codedLengthOf, checked, roomed, lengthSaid, encodeSaid, plainSaid}
 use Rattle.f32s.specs.Single.{finite}
 use Rattle.readings.specs.Decode.{score}
 use Rattle.readings.specs.Said.{survivorsOf, decodeSaid}
@@ -30,29 +30,29 @@ crosses-checked :
     (count ≤ most → Crosses value rest) → Crosses value (checked code rate count rest)
 crosses-checked value code rate count rest later =
     crosses-unless value (not (knownCode code)) 1 _ (omega arith)
-    (λ _. crosses-unless value (not (knownRate rate)) 2 _ (omega arith)
+    (λ _. crosses-unless value (not (knownRate code rate)) 2 _ (omega arith)
     (λ _. crosses-unless value (ltb most count) 3 rest (omega arith) (λ few. later (ltb-false most count few))))
 
-crosses-written : (need room : ℕ) → need < 2 ^ 32 → Crosses itself (written need room)
-crosses-written need room below = crosses-unless itself (ltb room need) 4 (accepted need) (omega arith) (λ _. small below)
+crosses-roomed : (need room : ℕ) → need < 2 ^ 32 → Crosses itself (roomed need room)
+crosses-roomed need room below = crosses-unless itself (ltb room need) 4 (accepted need) (omega arith) (λ _. small below)
 
 -- two coded bits at most for each step, and no more than 16 zeros behind the info bits
-length-below : (code rate count : ℕ) → count ≤ most → lengthOf code rate count < 2 ^ 32
+length-below : (code rate count : ℕ) → count ≤ most → codedLengthOf code rate count < 2 ^ 32
 length-below code rate count few =
-    omega (arith, coded-le (patternOf rate) (rate-pattern rate) (stepsOf (codeOf code) count), code-narrow code .narrow)
+    omega (arith, coded-le (patternOf code rate) (rate-pattern code rate) (stepsOf (codeOf code) count), code-narrow code .narrow)
 
 pub plain-tells : (count room : ℕ) → doorRead (doorNumber (plainSaid count room)) ≡ plainSaid count room
 unfolding plainSaid
 plain-tells count room =
     count-tells _
     (crosses-unless itself (ltb most count) 3 _ (omega arith)
-    (λ few. crosses-written (2 * count) room (omega (arith, ltb-false most count few))))
+    (λ few. crosses-roomed (2 * count) room (omega (arith, ltb-false most count few))))
 
 pub encode-tells : (code rate count room : ℕ) → doorRead (doorNumber (encodeSaid code rate count room)) ≡ encodeSaid code rate count room
 unfolding encodeSaid
 encode-tells code rate count room =
     count-tells _
-    (crosses-checked itself code rate count _ (λ few. crosses-written (lengthOf code rate count) room (length-below code rate count few)))
+    (crosses-checked itself code rate count _ (λ few. crosses-roomed (codedLengthOf code rate count) room (length-below code rate count few)))
 
 pub length-tells : (code rate count : ℕ) → doorRead (doorNumber (lengthSaid code rate count)) ≡ lengthSaid code rate count
 unfolding lengthSaid
@@ -65,17 +65,17 @@ pub decode-tells :
 unfolding decodeSaid
 decode-tells code rate info readings room scratch =
     let bits : Float → ℕ = toBits binary32 in
-    let used = take (lengthOf code rate info) readings in
+    let used = take (codedLengthOf code rate info) readings in
     let few-used : info ≤ most → length used < 2 ^ 32 =
     λ few. omega (
       arith,
-      length-take (lengthOf code rate info) readings,
-      min-le-left (lengthOf code rate info) (length readings),
+      length-take (codedLengthOf code rate info) readings,
+      min-le-left (codedLengthOf code rate info) (length readings),
       length-below code rate info few,
     ) in
     score-tells _
     (crosses-checked bits code rate info _
     (λ few. crosses-unless bits (ltb room info) 4 _ (omega arith)
     (λ _. crosses-unless bits (ltb scratch (survivorsOf code info)) 5 _ (omega arith)
-    (λ _. crosses-at-bad bits 6 finite used (accepted (score (codeOf code) (patternOf rate) readings info)) (omega arith) (few-used few)
-    (small (score-below (codeOf code) (code-narrow code .some) (patternOf rate) readings info))))))
+    (λ _. crosses-at-bad bits 6 finite used (accepted (score (codeOf code) (patternOf code rate) readings info)) (omega arith) (few-used few)
+    (small (score-below (codeOf code) (code-narrow code .some) (patternOf code rate) readings info))))))

@@ -1,130 +1,129 @@
--- The refusals in their order: each test's law, and what the encoder takes over from the coded length. Assumes nothing.
-use mathlib.Core.Bool.{Bool, true, false, not}
-use mathlib.Core.Path.{_≡_, refl, sym, ap, _∙_}
+-- The refusals in their order: those of a code, a rate and an info count by one number, then each entry's own. Assumes
+-- nothing.
+use mathlib.Core.Bool.{Bool, true, false, cond, not}
+use mathlib.Core.Path.{_≡_, refl, ap, _∙_}
 use Prim.Native.Nat.{ℕ, _*_, _≤_, _<_}
 use native.Mathlib.Omega.{arith}
 use borrow.Author.Tests.{lt-ltb, le-ltb, ltb-false}
 use lib.Dec.{ltb}
-use lib.ListN.{length}
-use Rattle.refusal.specs.declared.Counted.{Counted}
-use Rattle.refusal.specs.declared.Counted.the-variants as counted
-use Rattle.refusal.specs.declared.Refusal.{Refusal}
-use Rattle.refusal.specs.Answer.{Said, accepted, refused, refuseWhen, countSaid, Counts}
+use Rattle.refusal.specs.Answer.{Said, accepted, refused, refuseWhen}
 use Rattle.refusal.specs.Limits.{most}
 use Rattle.refusal.proofs.Told.{accepted-past}
-use Rattle.trellis.specs.Choice.{codes, knownCode, patterns, knownRate}
-use Rattle.encoder.specs.Encode.{lengthOf, checked, written, lengthSaid, encodeSaid, plainSaid}
+use Rattle.trellis.specs.Choice.{codes, knownCode, ratesOf, knownRate}
+use Rattle.encoder.specs.Encode.{codedLengthOf, checkedTo, choiceRefusal, checked, roomed, lengthSaid, encodeSaid, plainSaid}
+use Rattle.encoder.specs.Promise.{Decides}
 
--- ---- the tests that every call makes, lowest number first
+-- ---- the number of the refusal, test by test
 
-module _ {A : Type 0} (code rate count : ℕ) (rest : Said A) where
-  pub no-code : length codes ≤ code → checked code rate count rest ≡ refused 1 0
-  no-code h = rw (le-ltb code (length codes) h)
+module _ (limit code rate count : ℕ) where
+  pub no-code : codes ≤ code → Decides limit code rate count 1
+  unfolding choiceRefusal
+  no-code h = record { decided = rw (le-ltb code codes h) }
 
-  module _ (known : code < length codes) where
-    pub no-rate : length patterns ≤ rate → checked code rate count rest ≡ refused 2 0
-    no-rate h = rw (lt-ltb code (length codes) known, le-ltb rate (length patterns) h)
+  module _ (known : code < codes) where
+    pub no-rate : ratesOf code ≤ rate → Decides limit code rate count 2
+    unfolding choiceRefusal
+    no-rate h = record { decided = rw (lt-ltb code codes known, le-ltb rate (ratesOf code) h) }
 
-    module _ (known' : rate < length patterns) where
-      pub too-many : most < count → checked code rate count rest ≡ refused 3 0
-      too-many h = rw (lt-ltb code (length codes) known, lt-ltb rate (length patterns) known', lt-ltb most count h)
+    module _ (known' : rate < ratesOf code) where
+      pub too-many : limit < count → Decides limit code rate count 3
+      unfolding choiceRefusal
+      too-many h =
+          record { decided = rw (lt-ltb code codes known, lt-ltb rate (ratesOf code) known', lt-ltb limit count h) }
 
-      pub passes : count ≤ most → checked code rate count rest ≡ rest
-      passes h = rw (lt-ltb code (length codes) known, lt-ltb rate (length patterns) known', le-ltb most count h)
+      pub none-refused : count ≤ limit → Decides limit code rate count 0
+      unfolding choiceRefusal
+      none-refused h =
+          record { decided = rw (lt-ltb code codes known, lt-ltb rate (ratesOf code) known', le-ltb limit count h) }
+
+-- ---- what it decides
+
+abbrev three : {A : Type 0} → Bool → Bool → Bool → Said A → Said A
+three a b c rest = refuseWhen a 1 (refuseWhen b 2 (refuseWhen c 3 rest))
+
+abbrev first : Bool → Bool → Bool → ℕ
+first a b c = cond a 1 (cond b 2 (cond c 3 0))
+
+stops : {A : Type 0} (a b c : Bool) (rest : Said A) → (first a b c ≡ 0 → ⊥) → three a b c rest ≡ refused (first a b c) 0
+stops true b c rest h = refl
+stops false true c rest h = refl
+stops false false true rest h = refl
+stops false false false rest h = absurd (h refl)
+
+record Through (a b c : Bool) : Type 0 where
+  pub first-passed : a ≡ false
+  pub second-passed : b ≡ false
+  pub third-passed : c ≡ false
+
+through : (a b c : Bool) → first a b c ≡ 0 → Through a b c
+through true b c e = absurd (omega arith)
+through false true c e = absurd (omega arith)
+through false false true e = absurd (omega arith)
+through false false false e = record { first-passed = refl; second-passed = refl; third-passed = refl }
+
+rest-of : {A : Type 0} {a b c : Bool} → Through a b c → (rest : Said A) → three a b c rest ≡ rest
+rest-of t rest = rw (t .first-passed, t .second-passed, t .third-passed)
+
+module _ {limit code rate count number : ℕ} (is : Decides limit code rate count number) where
+  -- a number that is not 0 is the refusal, whatever else would be tested
+  pub choice-refused :
+      {A : Type 0} (rest : Said A) → (number ≡ 0 → ⊥) → checkedTo limit code rate count rest ≡ refused number 0
+  unfolding choiceRefusal
+  choice-refused rest h =
+      let tests = stops (not (knownCode code)) (not (knownRate code rate)) (ltb limit count) rest (λ e. h (is .decided ∙ e)) in
+      rw (is .decided) tests
+
+  -- 0 passes on to the rest
+  module _ (none : number ≡ 0) where
+    passes-tests : Through (not (knownCode code)) (not (knownRate code rate)) (ltb limit count)
+    unfolding choiceRefusal
+    passes-tests = through _ _ _ (cc)
+
+    pub choice-passes : {A : Type 0} (rest : Said A) → checkedTo limit code rate count rest ≡ rest
+    choice-passes rest = rest-of passes-tests rest
+
+    pub choice-few : count ≤ limit
+    choice-few = ltb-false limit count (passes-tests .third-passed)
+
+    -- and so it does under a wider limit
+    pub choice-passes-wider :
+        {A : Type 0} (wider : ℕ) → limit ≤ wider → (rest : Said A) → checkedTo wider code rate count rest ≡ rest
+    choice-passes-wider wider h rest =
+        rw (passes-tests .first-passed, passes-tests .second-passed, le-ltb wider count (omega (arith, choice-few)))
 
 -- what was accepted passed them
 pub checked-past :
     {A : Type 0} (code rate count : ℕ) (rest : Said A) (a : A) → checked code rate count rest ≡ accepted a → rest ≡ accepted a
 checked-past code rate count rest a e =
     accepted-past (ltb most count) 3 rest a
-    (accepted-past (not (knownRate rate)) 2 _ a
+    (accepted-past (not (knownRate code rate)) 2 _ a
     (accepted-past (not (knownCode code)) 1 _ a
     e))
 
--- ---- the coded length
+-- ---- the coded length, and the encoder
 
-module _ (code rate count : ℕ) where
-  abbrev answer : Said ℕ
-  answer = accepted (lengthOf code rate count)
-
-  pub length-no-code : length codes ≤ code → lengthSaid code rate count ≡ refused 1 0
+module _ {code rate count number : ℕ} (is : Decides most code rate count number) where
+  pub length-refused : (number ≡ 0 → ⊥) → lengthSaid code rate count ≡ refused number 0
   unfolding lengthSaid
-  length-no-code h = no-code code rate count answer h
+  length-refused h = choice-refused is _ h
 
-  pub length-no-rate : code < length codes → length patterns ≤ rate → lengthSaid code rate count ≡ refused 2 0
-  unfolding lengthSaid
-  length-no-rate known h = no-rate code rate count answer known h
+  pub encode-refused : (number ≡ 0 → ⊥) → (room : ℕ) → encodeSaid code rate count room ≡ refused number 0
+  unfolding encodeSaid
+  encode-refused h room = choice-refused is _ h
 
-  pub length-too-many :
-      code < length codes → rate < length patterns → most < count → lengthSaid code rate count ≡ refused 3 0
-  unfolding lengthSaid
-  length-too-many known known' h = too-many code rate count answer known known' h
+  module _ (none : number ≡ 0) where
+    pub length-is : lengthSaid code rate count ≡ accepted (codedLengthOf code rate count)
+    unfolding lengthSaid
+    length-is = choice-passes is none _
 
-  pub length-is : code < length codes → rate < length patterns → count ≤ most → lengthSaid code rate count ≡ answer
-  unfolding lengthSaid
-  length-is known known' h = passes code rate count answer known known' h
+    module _ {need : ℕ} (needs : need ≡ codedLengthOf code rate count) (room : ℕ) where
+      pub encode-short : room < need → encodeSaid code rate count room ≡ refused 4 0
+      unfolding encodeSaid
+      encode-short h = choice-passes is none _ ∙ rw (← needs, lt-ltb room need h)
 
--- ---- what the encoder takes over from the coded length
-
-abbrev three : Bool → Bool → Bool → Said ℕ → Said ℕ
-three a b c rest = refuseWhen a 1 (refuseWhen b 2 (refuseWhen c 3 rest))
-
-apart : (number place n : ℕ) → _≡_ {A = Said ℕ} (refused number place) (accepted n) → ⊥
-apart number place n e = let z : _≡_ {A = ℕ} 0 1 = cc in omega arith
-
-record Through (a b c : Bool) (n m : ℕ) : Type 0 where
-  pub same : n ≡ m
-  pub third : c ≡ false
-  pub rest : (s : Said ℕ) → three a b c s ≡ s
-
-through : (a b c : Bool) (n m : ℕ) → three a b c (accepted n) ≡ accepted m → Through a b c n m
-through true b c n m e = absurd (apart 1 0 m e)
-through false true c n m e = absurd (apart 2 0 m e)
-through false false true n m e = absurd (apart 3 0 m e)
-through false false false n m e = record { same = cc; third = refl; rest = λ s. refl }
-
-stopped :
-    (a b c : Bool) (n number place : ℕ) → three a b c (accepted n) ≡ refused number place →
-    (s : Said ℕ) → three a b c s ≡ refused number place
-stopped true b c n number place e s = e
-stopped false true c n number place e s = e
-stopped false false true n number place e s = e
-stopped false false false n number place e s = absurd (apart number place n (sym e))
-
--- the coded length is n, and all that the encoder still tests is its room
-pub record Passed (code rate count n : ℕ) : Type 0 where
-  pub need : lengthOf code rate count ≡ n
-  pub few : count ≤ most
-  pub said : (room : ℕ) → encodeSaid code rate count room ≡ written n room
-
-module _ {code rate count n : ℕ} (passed : Passed code rate count n) (room : ℕ) where
-  pub said-short : room < n → encodeSaid code rate count room ≡ refused 4 0
-  said-short h = passed .said room ∙ rw (lt-ltb room n h)
-
-  pub said-fits : n ≤ room → encodeSaid code rate count room ≡ accepted n
-  said-fits h = passed .said room ∙ rw (le-ltb room n h)
-
-module _ (code rate count : ℕ) {answer : Counted} (told : Counts answer (lengthSaid code rate count)) where
-  pub length-passed : {n : ℕ} → answer ≡ counted.Count n → Passed code rate count n
-  unfolding lengthSaid encodeSaid
-  length-passed {n} e =
-      let t =
-      through (not (knownCode code)) (not (knownRate rate)) (ltb most count) (lengthOf code rate count) n
-      (sym told ∙ ap countSaid e) in
-      record {
-        need = t .same;
-        few = ltb-false most count (t .third);
-        said = λ room. t .rest (written (lengthOf code rate count) room) ∙ ap (λ (m : ℕ). written m room) (t .same);
-      }
-
-  -- a refusal of the coded length is the encoder's
-  pub length-refused :
-      {r : Refusal} → answer ≡ counted.Refused r → (room : ℕ) →
-      encodeSaid code rate count room ≡ refused (r .number) (r .place)
-  unfolding lengthSaid encodeSaid
-  length-refused {r} e room =
-      stopped (not (knownCode code)) (not (knownRate rate)) (ltb most count) (lengthOf code rate count) (r .number) (r .place)
-      (sym told ∙ ap countSaid e) (written (lengthOf code rate count) room)
+      pub encode-fits : need ≤ room → encodeSaid code rate count room ≡ accepted need
+      unfolding encodeSaid
+      encode-fits h = choice-passes is none _ ∙ rw (← needs, le-ltb room need h)
 
 -- ---- the plain encoder
 

@@ -1,4 +1,4 @@
--- The count in an accepted answer is how many bits are written, and the coded length is that of the codeword. Assumes nothing.
+-- The count in an accepted answer is how many bits are roomed, and the coded length is that of the codeword. Assumes nothing.
 use mathlib.Core.List.{List}
 use mathlib.Core.Path.{_≡_, _∙_}
 use Prim.Native.Nat.{ℕ, _*_}
@@ -11,19 +11,19 @@ use Rattle.trellis.specs.Choice.{k5, half, codeOf, patternOf}
 use Rattle.trellis.specs.Codeword.{lowestBits}
 use Rattle.trellis.proofs.Chosen.{rate-pattern, half-length}
 use Rattle.trellis.proofs.Sent.{length-sent, length-codeword}
-use Rattle.encoder.specs.Encode.{lengthOf, written, lengthSaid, encodeSaid, encodeWord, plainSaid, plainWord}
+use Rattle.encoder.specs.Encode.{codedLengthOf, roomed, lengthSaid, encodeSaid, encodeWord, plainSaid, plainWord}
 use Rattle.encoder.proofs.Checks.{checked-past}
 
-length-encoded : (code rate : ℕ) (info : List ℕ) → length (encodeWord code rate info) ≡ lengthOf code rate (length info)
-length-encoded code rate info = length-codeword (codeOf code) (patternOf rate) (rate-pattern rate) info
+length-encoded : (code rate : ℕ) (info : List ℕ) → length (encodeWord code rate info) ≡ codedLengthOf code rate (length info)
+length-encoded code rate info = length-codeword (codeOf code) (patternOf code rate) (rate-pattern code rate) info
 
 length-plain : (bits : List ℕ) → length (plainWord bits) ≡ 2 * length bits
 unfolding plainWord patternOf
-length-plain bits = length-sent k5 half (rate-pattern 0) (lowestBits bits) (length bits) ∙ half-length (length bits)
+length-plain bits = length-sent k5 half (rate-pattern 0 0) (lowestBits bits) (length bits) ∙ half-length (length bits)
 
 -- what was accepted had room
-written-past : (need room n : ℕ) → written need room ≡ accepted n → need ≡ n
-written-past need room n e = accepted-told need n (accepted-past (ltb room need) 4 (accepted need) n e)
+roomed-past : (need room n : ℕ) → roomed need room ≡ accepted n → need ≡ n
+roomed-past need room n e = accepted-told need n (accepted-past (ltb room need) 4 (accepted need) n e)
 
 -- `punctured_coded_len_with`
 pub length-count :
@@ -31,7 +31,7 @@ pub length-count :
 unfolding lengthSaid
 length-count code rate info n e =
     length-encoded code rate info
-    ∙ accepted-told _ n (checked-past code rate (length info) (accepted (lengthOf code rate (length info))) n e)
+    ∙ accepted-told _ n (checked-past code rate (length info) (accepted (codedLengthOf code rate (length info))) n e)
 
 -- `conv_encode_punctured_with`
 pub encode-count :
@@ -40,10 +40,10 @@ pub encode-count :
 unfolding encodeSaid
 encode-count code rate room info n e =
     length-encoded code rate info
-    ∙ written-past _ room n (checked-past code rate (length info) (written (lengthOf code rate (length info)) room) n e)
+    ∙ roomed-past _ room n (checked-past code rate (length info) (roomed (codedLengthOf code rate (length info)) room) n e)
 
 -- `conv_encode`
 pub plain-count : (room : ℕ) (bits : List ℕ) (n : ℕ) → plainSaid (length bits) room ≡ accepted n → length (plainWord bits) ≡ n
 unfolding plainSaid
 plain-count room bits n e =
-    length-plain bits ∙ written-past _ room n (accepted-past (ltb most (length bits)) 3 (written (2 * length bits) room) n e)
+    length-plain bits ∙ roomed-past _ room n (accepted-past (ltb most (length bits)) 3 (roomed (2 * length bits) room) n e)

@@ -1,11 +1,16 @@
 -- What the entries promise, and their doors: each contract is one of these. `Answers` is how the caller reads the
 -- answer (`Counts r` of an entry, `Numbers r` of a door), `out` the lent buffer. Definitions only.
 use mathlib.Core.List.{List}
+use mathlib.Core.Path.{_≡_}
 use Prim.Native.Nat.{ℕ}
 use lib.ListN.{length}
 use Rattle.refusal.specs.Answer.{Said}
 use Rattle.refusal.specs.Lent.{Lent, Writes}
-use Rattle.encoder.specs.Encode.{lengthSaid, encodeSaid, encodeWord, plainSaid, plainWord}
+use Rattle.encoder.specs.Encode.{choiceRefusal, lengthSaid, encodeSaid, encodeWord, plainSaid, plainWord}
+
+-- `refused_choice`: the number of the refusal that a code, a rate and an info count earn, and 0 where they earn none
+pub record Decides (limit code rate count number : ℕ) : Type 0 where
+  pub decided : number ≡ choiceRefusal limit code rate count
 
 -- `punctured_coded_len_with`: how many coded bits an info count gives
 abbrev pub Measures : (Said ℕ → Type 0) → (code rate info : ℕ) → Type 0

@@ -1,17 +1,16 @@
 // The encoders and the coded length: K5 or K7, with a zero tail and punctured, and plain K5.
 ghost use mathlib.Core.Path.{_≡_};
-ghost use Prim.Native.Nat.{_≤_};
-ghost use lib.ListN.{length, getD};
+ghost use lib.ListN.{getD};
 ghost use Rattle.refusal.specs.Answer.{Counts};
 ghost use Rattle.refusal.specs.Lent.{lent};
 ghost use Rattle.trellis.specs.Choice.{codeOf, patternOf, keepOf};
 ghost use Rattle.trellis.specs.Codeword.{lowestBits};
-ghost use Rattle.trellis.specs.Keep.{codedLength};
-ghost use Rattle.encoder.specs.Promise.{Measures, Encodes, EncodesPlain};
-ghost use Rattle.encoder.specs.Inner.{keptBy, RoomFor, PutsAt, Ready, Sends};
+ghost use Rattle.encoder.specs.Promise.{Decides, Measures, Encodes, EncodesPlain};
+ghost use Rattle.encoder.specs.Inner.{keptBy, RoomFor, PutsAt, Ready, ReadyAt, Sends};
 use refusal::Counted;
 use trellis::ConvCode;
 use trellis::KeepPattern;
+use trellis::Selected;
 
 // The input of step t: the lowest bit of its byte, and 0 past the end, which is the zero tail.
 fn input_at(bits: &[u8], t: usize) -> u32
@@ -56,67 +55,69 @@ fn encode(code: ConvCode, keep: KeepPattern, bits: &[u8], steps: usize, out: &mu
     }
 }
 
-// The same for the code and the keep pattern of their numbers. Where these are constants, the compiler
-// leaves the columns and the tap words out of the loop: the Rust too has ways of its own for rate 1/2
-// and for K5.
-fn encode_at(code: u8, rate: u8, bits: &[u8], steps: usize, out: &mut [u8])
-    requires { ⌜ codedLength (patternOf rate) steps ≤ length (now out) ⌝ }
-    ensures { λ _. ⌜ Sends (codeOf code) (patternOf rate) steps (now (bits .entry)) (lent out) ⌝ }
+// The same for what a code number and a rate number select. Where these are constants, the compiler leaves
+// the columns and the tap words out of the loop: the Rust too has ways of its own for rate 1/2 and for K5.
+fn encode_at(code: u8, rate: u8, chosen: Selected, bits: &[u8], steps: usize, out: &mut [u8])
+    requires { ⌜ ReadyAt code rate chosen steps (now out) ⌝ }
+    ensures { λ _. ⌜ Sends (codeOf code) (patternOf code rate) steps (now (bits .entry)) (lent out) ⌝ }
 {
     if rate == 0 {
         if code == 0 {
-            encode(trellis::conv_code(0), trellis::matrix(0), bits, steps, out);
+            let k5 = trellis::choose(0, 0);
+            encode(k5.code, k5.keep, bits, steps, out);
             return;
         }
-        encode(
-            trellis::conv_code(code),
-            trellis::matrix(0),
-            bits,
-            steps,
-            out,
-        );
+        let half = trellis::choose(code, 0);
+        encode(half.code, half.keep, bits, steps, out);
         return;
     }
-    encode(
-        trellis::conv_code(code),
-        trellis::matrix(rate),
-        bits,
-        steps,
-        out,
-    );
+    encode(chosen.code, chosen.keep, bits, steps, out);
+}
+
+// Refusals 1 to 3, which every call with a code, a rate and an info count decides first: the number of the
+// one that it earns, and 0 where it earns none. The limit on info bits is the caller's.
+pub fn refused_choice(code: u8, rate: u8, info: usize, limit: usize) -> u8
+    ensures { λ r. ⌜ Decides limit code rate info r ⌝ }
+{
+    if trellis::CODES <= code {
+        return 1;
+    }
+    if trellis::RATES <= rate {
+        return 2;
+    }
+    if limit < info {
+        return 3;
+    }
+    0
 }
 
 // How many coded bits an info count gives.
 pub fn punctured_coded_len_with(code: u8, info: usize, rate: u8) -> Counted
     ensures { λ r. ⌜ Measures (Counts r) code rate info ⌝ }
 {
-    if trellis::CODES <= code {
-        return refusal::no_count(1);
+    let number = refused_choice(code, rate, info, refusal::MOST);
+    if number != 0 {
+        return refusal::no_count(number);
     }
-    if trellis::RATES <= rate {
-        return refusal::no_count(2);
-    }
-    if refusal::MOST < info {
-        return refusal::no_count(3);
-    }
-    let chosen = trellis::conv_code(code);
-    let keep = trellis::matrix(rate);
-    Counted::Count(trellis::coded_len(keep, info + chosen.width))
+    let chosen = trellis::choose(code, rate);
+    Counted::Count(trellis::coded_len(chosen.keep, info + chosen.code.width))
 }
 
 // The zero-tailed, punctured codeword of the info bits.
 pub fn conv_encode_punctured_with(code: u8, info: &[u8], rate: u8, out: &mut [u8]) -> Counted
     ensures { λ r. ⌜ Encodes (Counts r) code rate (now (info .entry)) (lent out) ⌝ }
 {
-    let answer = punctured_coded_len_with(code, info.len(), rate);
-    let Counted::Count(need) = answer else {
-        return answer;
-    };
+    let number = refused_choice(code, rate, info.len(), refusal::MOST);
+    if number != 0 {
+        return refusal::no_count(number);
+    }
+    let chosen = trellis::choose(code, rate);
+    let steps = info.len() + chosen.code.width;
+    let need = trellis::coded_len(chosen.keep, steps);
     if out.len() < need {
         return refusal::no_count(4);
     }
-    let chosen = trellis::conv_code(code);
-    encode_at(code, rate, info, info.len() + chosen.width, out);
+    encode_at(code, rate, chosen, info, steps, out);
     Counted::Count(need)
 }
 
@@ -132,6 +133,6 @@ pub fn conv_encode(bits: &[u8], out: &mut [u8]) -> Counted
     if out.len() < twice {
         return refusal::no_count(4);
     }
-    encode_at(0, 0, bits, count, out);
+    encode_at(0, 0, trellis::choose(0, 0), bits, count, out);
     Counted::Count(twice)
 }

@@ -1,31 +1,33 @@
--- What the decoder is asked for gives the line's answer: its own refusals come in the same order, and those of a short output and of short scratch
+-- The line's answer: its own refusals first, then the decoder's, of which those of a short output and of short scratch
 -- never come. Assumes nothing.
-use mathlib.Core.Bool.{Bool, true, false, cond, not, true≢false}
+use mathlib.Core.Bool.{true, false, true≢false}
 use mathlib.Core.List.{List, []}
 use mathlib.Core.Path.{_≡_, sym, ap, _∙_}
-use Prim.Native.Nat.{ℕ, _^_, _≤_, _<_}
+use Prim.Native.Nat.{ℕ, _^_, _≤_}
 use native.Mathlib.Decide.{decLt}
-use native.Mathlib.Nat.{mul-le-mul-right}
+use native.Mathlib.Nat.{mul-le-mul}
 use native.Mathlib.Omega.{arith}
 use borrow.Author.Tests.{lt-ltb, le-ltb}
-use lib.Dec.{ltb}
 use lib.Ieee.{Float}
 use lib.ListN.{length, take, drop, replicate}
 use lib.Pow.{pow-mono}
 use lib.Seq.{take-at}
+use Rattle.encoder.specs.Promise.{Decides}
+use Rattle.encoder.proofs.Checks.{choice-refused, choice-passes, choice-passes-wider, choice-few}
+use Rattle.f32s.specs.Single.{allOfBytes}
 use Rattle.readings.specs.Decode.{word}
 use Rattle.readings.specs.Said.{survivorsOf, decodeSaid}
 use Rattle.readings.proofs.Counts.{length-word}
-use Rattle.readings.proofs.Selected.{code-width}
-use Rattle.f32s.specs.Single.{allOfBytes}
-use Rattle.refusal.specs.Answer.{accepted, refused, refuseWhen, wordSaid}
+use Rattle.refusal.specs.Answer.{accepted, refused, wordSaid}
 use Rattle.refusal.specs.declared.Decoded.{Decoded}
 use Rattle.refusal.specs.declared.Decoded.the-variants as variants
 use Rattle.refusal.specs.declared.Refusal.{Refusal}
 use Rattle.refusal.specs.Lent.{over, leaves}
-use Rattle.trellis.specs.Choice.{knownCode, codeOf, knownRate, patternOf}
+use Rattle.refusal.specs.Limits.{most}
+use Rattle.trellis.specs.Choice.{k7, codeOf, patternOf}
 use Rattle.trellis.specs.Codeword.{stepsOf}
-use Rattle.line.specs.Line.{shaped, codeIn, rateIn, infoIn, readingsIn, lineSaid, wordIn, lineOf, output}
+use Rattle.trellis.proofs.Chosen.{code-width}
+use Rattle.line.specs.Line.{mostInfo, mostSurvivors, shaped, codeIn, rateIn, infoIn, readingsIn, lineSaid, wordIn, lineOf, output}
 use Rattle.line.specs.Post.{refusalIn}
 
 -- ---- the shape of the input
@@ -45,93 +47,87 @@ pub output-refused : (input : List ℕ) (number place : ℕ) → lineSaid input 
 unfolding output
 output-refused input number place e = rw e
 
--- ---- what the decoder is asked for
+-- ---- the code, the rate and the info count
 
--- scratch for 1,006 steps of 64 states is enough
-survivors-few : (code info : ℕ) → info ≤ 1000 → survivorsOf code info ≤ 64384
-survivors-few code info h =
-    let states : 2 ^ codeOf code .width ≤ 64 = pow-mono {j = 6} (code-width code) in
-    let steps : stepsOf (codeOf code) info ≤ 1006 = omega (arith, code-width code) in
-    omega (arith, mul-le-mul-right (2 ^ codeOf code .width) steps, states)
-
--- a call that is refused with 3 at the latest is not accepted
-no-word : (a b : Bool) (score : Float) → refuseWhen a 1 (refuseWhen b 2 (refused 3 0)) ≡ accepted score → ⊥
-no-word true b score e = let z : _≡_ {A = ℕ} 0 1 = cc in omega arith
-no-word false true score e = let z : _≡_ {A = ℕ} 0 1 = cc in omega arith
-no-word false false score e = let z : _≡_ {A = ℕ} 0 1 = cc in omega arith
-
--- A call of the decoder for a shaped input: with the readings' bytes, room for 1,000 bits and scratch for their survivors.
-pub record Called (input bytes : List ℕ) (asked : ℕ) (answer : Decoded) : Type 0 where
+-- a shaped input, and the number of the refusal that its choice earns
+pub record Decided (input : List ℕ) (number : ℕ) : Type 0 where
   pub is : shaped (length input) ≡ true
-  pub asks : asked ≡ cond (ltb 1000 (infoIn input)) 4097 (infoIn input)
+  pub decides : Decides mostInfo (codeIn input) (rateIn input) (infoIn input) number
+
+module _ {input : List ℕ} {number : ℕ} (decided : Decided input number) (h : number ≡ 0 → ⊥) where
+  choice-said : lineSaid input ≡ refused number 0
+  unfolding lineSaid
+  choice-said = rw (decided .is) (choice-refused (decided .decides) _ h)
+
+  pub choice-output : output input ≡ lineOf (refused number 0) []
+  choice-output = output-refused input number 0 choice-said
+
+-- ---- the decoder
+
+-- scratch for the steps of the widest code is enough
+survivors-few : (code info : ℕ) → info ≤ mostInfo → survivorsOf code info ≤ mostSurvivors
+survivors-few code info h =
+    let steps : stepsOf (codeOf code) info ≤ stepsOf k7 mostInfo = omega (arith, code-width code) in
+    mul-le-mul steps (pow-mono (code-width code))
+
+-- A call of the decoder for a shaped input whose choice passes: with the readings' bytes, room for the most info bits and
+-- scratch for their survivors.
+pub record Called (input bytes : List ℕ) (number : ℕ) (answer : Decoded) : Type 0 where
+  pub choice : Decided input number
+  pub passes : number ≡ 0
   pub behind : bytes ≡ drop 4 input
-  pub says : wordSaid answer ≡ decodeSaid (codeIn input) (rateIn input) asked (allOfBytes bytes) 1000 64384
+  pub says :
+      wordSaid answer ≡ decodeSaid (codeIn input) (rateIn input) (infoIn input) (allOfBytes bytes) mostInfo mostSurvivors
 
--- what is asked for, where the count n that was read is the input's
-pub asks-count : (input : List ℕ) (asked n : ℕ) → asked ≡ cond (ltb 1000 n) 4097 n → n ≡ infoIn input → asked ≡ cond (ltb 1000 (infoIn input)) 4097 (infoIn input)
-asks-count input asked n e f = e ∙ ap (λ (m : ℕ). cond (ltb 1000 m) 4097 m) f
+module _ {input bytes : List ℕ} {number : ℕ} {answer : Decoded} (call : Called input bytes number answer) where
+  pub info-few : infoIn input ≤ mostInfo
+  info-few = choice-few (call .choice .decides) (call .passes)
 
-module _ {input bytes : List ℕ} {asked : ℕ} {answer : Decoded} (call : Called input bytes asked answer) where
-  asked-few : infoIn input ≤ 1000 → asked ≡ infoIn input
-  asked-few h = call .asks ∙ rw (le-ltb 1000 (infoIn input) h)
-
-  asked-many : 1000 < infoIn input → asked ≡ 4097
-  asked-many h = call .asks ∙ rw (lt-ltb 1000 (infoIn input) h)
-
-  said-decoded : lineSaid input ≡ decodeSaid (codeIn input) (rateIn input) asked (allOfBytes bytes) 1000 64384
+  said-decoded :
+      lineSaid input ≡ decodeSaid (codeIn input) (rateIn input) (infoIn input) (allOfBytes bytes) mostInfo mostSurvivors
   unfolding lineSaid decodeSaid
   said-decoded =
-      elim (decLt 1000 (infoIn input)) [
-        | yes many ↦ rw (call .is, asked-many many, lt-ltb 1000 (infoIn input) many)
-        | no few ↦
-            let within : infoIn input ≤ 1000 = omega arith in
-            rw (
-              call .is,
-              call .behind,
-              asked-few within,
-              le-ltb 4096 (infoIn input) (omega arith),
-              le-ltb 1000 (infoIn input) within,
-              le-ltb 64384 (survivorsOf (codeIn input) (infoIn input)) (survivors-few (codeIn input) (infoIn input) within),
-            )
-      ]
+      rw (
+        call .choice .is,
+        call .behind,
+        choice-passes (call .choice .decides) (call .passes) _,
+        choice-passes-wider (call .choice .decides) (call .passes) most (omega arith) _,
+        le-ltb mostInfo (infoIn input) info-few,
+        le-ltb mostSurvivors (survivorsOf (codeIn input) (infoIn input)) (survivors-few (codeIn input) (infoIn input) info-few),
+      )
 
   said-answer : lineSaid input ≡ wordSaid answer
   said-answer = said-decoded ∙ sym (call .says)
 
   pub refused-output :
-      {r : Refusal} → answer ≡ variants.Refused r → (number place : ℕ) → refused number place ≡ refusalIn (wordSaid answer) → output input ≡ lineOf (refused number place) []
+      {r : Refusal} → answer ≡ variants.Refused r → (number place : ℕ) → refused number place ≡ refusalIn (wordSaid answer) →
+      output input ≡ lineOf (refused number place) []
   refused-output e number place is-in =
-      output-refused input number place (said-answer ∙ ap wordSaid e ∙ sym (is-in ∙ ap (λ (a : Decoded). refusalIn (wordSaid a)) e))
+      output-refused input number place
+      (said-answer ∙ ap wordSaid e ∙ sym (is-in ∙ ap (λ (a : Decoded). refusalIn (wordSaid a)) e))
 
   module _ {score : Float} (e : answer ≡ variants.Word score) where
     said-accepted : lineSaid input ≡ accepted score
     said-accepted = said-answer ∙ ap wordSaid e
-
-    pub info-few : infoIn input ≤ 1000
-    unfolding lineSaid
-    info-few =
-        elim (decLt 1000 (infoIn input)) [
-          | yes many ↦
-              absurd (no-word (not (knownCode (codeIn input))) (not (knownRate (rateIn input))) score (rw (call .is, lt-ltb 1000 (infoIn input) many) at said-accepted))
-          | no few ↦ omega arith
-        ]
 
     -- what the call left in the word's room
     module _
         (left : List ℕ)
         (leaves-it :
         left
-        ≡ leaves (decodeSaid (codeIn input) (rateIn input) asked (allOfBytes bytes) 1000 64384)
-        (word (codeOf (codeIn input)) (patternOf (rateIn input)) (allOfBytes bytes) asked) (replicate 1000 0)) where
-      left-word : left ≡ over (wordIn input) (replicate 1000 0)
+        ≡ leaves (decodeSaid (codeIn input) (rateIn input) (infoIn input) (allOfBytes bytes) mostInfo mostSurvivors)
+        (word (codeOf (codeIn input)) (patternOf (codeIn input) (rateIn input)) (allOfBytes bytes) (infoIn input))
+        (replicate mostInfo 0)) where
+      left-word : left ≡ over (wordIn input) (replicate mostInfo 0)
       unfolding wordIn
-      left-word = leaves-it ∙ rw (sym said-decoded ∙ said-accepted, call .behind, asked-few info-few)
+      left-word = leaves-it ∙ rw (sym said-decoded ∙ said-accepted, call .behind)
 
       front-word : take (infoIn input) left ≡ wordIn input
       unfolding wordIn over
       front-word =
           ap (take (infoIn input)) left-word
-          ∙ take-at (wordIn input) _ (infoIn input) (length-word (codeOf (codeIn input)) (patternOf (rateIn input)) (readingsIn input) (infoIn input))
+          ∙ take-at (wordIn input) _ (infoIn input)
+          (length-word (codeOf (codeIn input)) (patternOf (codeIn input) (rateIn input)) (readingsIn input) (infoIn input))
 
       pub word-output : output input ≡ lineOf (accepted score) (take (infoIn input) left)
       unfolding output

@@ -5,7 +5,7 @@ use lib.Count.{ones}
 use lib.Ieee.{ofBits, toBits, sub, le}
 use Rattle.f32s.specs.Single.{allOfBytes}
 use Rattle.refusal.specs.First.{firstBad}
-use Rattle.trellis.specs.Choice.{codeOf, patternOf}
+use Rattle.trellis.specs.Choice.{codeOf, patternOf, ratesOf}
 use Rattle.trellis.specs.Keep.{keepsBy}
 use Rattle.trellis.specs.State.{nextState}
 use Rattle.line.specs.Line.{output}
@@ -14,5 +14,5 @@ use Rattle.line.specs.Line.{output}
 pub example :
     output (0 ∷ 0 ∷ 1 ∷ 0 ∷ 0 ∷ 0 ∷ 128 ∷ 191 ∷ [])
     ≡ 119 ∷ 111 ∷ 114 ∷ 100 ∷ 32 ∷ 49 ∷ 32 ∷ 115 ∷ 99 ∷ 111 ∷ 114 ∷ 101 ∷ 32 ∷ 51 ∷ 70 ∷ 56 ∷ 48 ∷ 48 ∷ 48 ∷ 48 ∷ 48 ∷ 10 ∷ []
-unfolding output allOfBytes firstBad codeOf patternOf keepsBy nextState ones ofBits toBits sub le
+unfolding output allOfBytes firstBad codeOf patternOf ratesOf keepsBy nextState ones ofBits toBits sub le
 example = refl

@@ -10,6 +10,7 @@ use lib.Seq.{paste, paste-suc, take-all, length-take-le}
 use Rattle.refusal.specs.Lent.{over}
 use Rattle.encoder.proofs.Turn.{Fronted, fronted-none, piece-adds}
 use Rattle.line.specs.declared.Line.{Line}
+use Rattle.line.specs.Line.{mostInfo, lineBytes}
 use Rattle.line.specs.Post.{Holds}
 use Rattle.line.specs.Text.{bitText, wordText}
 
@@ -42,14 +43,14 @@ pub bits-text : (bits : List ℕ) → (length bits ≡ 0 → ⊥) → wordText b
 bits-text [] h = absurd (h refl)
 bits-text (b ∷ bits) h = refl
 
-pub text-few : (bits : List ℕ) → length bits ≤ 1000 → length (wordText bits) ≤ 1000
+pub text-few : (bits : List ℕ) → length bits ≤ mostInfo → length (wordText bits) ≤ mostInfo
 text-few [] h = lit≤ tt
 text-few (b ∷ bits) h = rw (length-map (b ∷ bits) bitText) h
 
 -- ---- a line
 
 abbrev pub zeros : List ℕ
-zeros = replicate 1024 0
+zeros = replicate lineBytes 0
 
 -- what a call that writes a text tells: the next place, and the list, which keeps its length
 pub record Wrote (old : List ℕ) (at : ℕ) (text new : List ℕ) (next : ℕ) : Type 0 where

@@ -1,16 +1,17 @@
 -- The program's whole output for every input. Definitions only.
 use mathlib.Core.Bool.{Bool, not, _&&_}
 use mathlib.Core.List.{List, [], _∷_, _++_}
-use Prim.Native.Nat.{ℕ, _+_, _*_, _%_}
+use Prim.Native.Nat.{ℕ, _+_, _*_, _%_, _^_}
 use lib.Dec.{ltb, eqb}
 use lib.Ieee.{Float, binary32, toBits}
 use lib.ListN.{length, getD, take, drop}
-use Rattle.encoder.specs.Encode.{lengthOf, checkedTo}
+use Rattle.encoder.specs.Encode.{codedLengthOf, checkedTo}
 use Rattle.f32s.specs.Single.{allOfBytes}
 use Rattle.readings.specs.Decode.{word, score}
 use Rattle.readings.specs.Said.{examined}
 use Rattle.refusal.specs.Answer.{Said, accepted, refused, refuseWhen}
-use Rattle.trellis.specs.Choice.{codeOf, patternOf}
+use Rattle.trellis.specs.Choice.{k7, codeOf, patternOf}
+use Rattle.trellis.specs.Codeword.{stepsOf}
 use Rattle.line.specs.Text.{hexDigits, decimal, wordText}
 
 -- the most bytes of an input, and the most info bits that it may ask for
@@ -19,6 +20,14 @@ mostBytes = 8192
 
 abbrev pub mostInfo : ℕ
 mostInfo = 1000
+
+-- the survivors of as many info bits in the widest code
+abbrev pub mostSurvivors : ℕ
+mostSurvivors = stepsOf k7 mostInfo * 2 ^ k7 .width
+
+-- the bytes of a line: the longest has 21 more than info bits
+abbrev pub lineBytes : ℕ
+lineBytes = mostInfo + 24
 
 -- 4 + 4k bytes, and no more than the most
 abbrev pub shaped : ℕ → Bool
@@ -44,11 +53,12 @@ module _ (input : List ℕ) where
   lineSaid =
       refuseWhen (not (shaped (length input))) 10
       (checkedTo mostInfo codeIn rateIn infoIn
-      (examined (take (lengthOf codeIn rateIn infoIn) readingsIn) (accepted (score (codeOf codeIn) (patternOf rateIn) readingsIn infoIn))))
+      (examined (take (codedLengthOf codeIn rateIn infoIn) readingsIn)
+      (accepted (score (codeOf codeIn) (patternOf codeIn rateIn) readingsIn infoIn))))
 
   unfoldable pub wordIn : List ℕ
   unfolding word
-  wordIn = word (codeOf codeIn) (patternOf rateIn) readingsIn infoIn
+  wordIn = word (codeOf codeIn) (patternOf codeIn rateIn) readingsIn infoIn
 
 -- ---- in ASCII
 

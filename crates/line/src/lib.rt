@@ -1,12 +1,10 @@
 // The relay program's answer: from the bytes of its input to those of its output.
-ghost use mathlib.Core.Bool.{cond};
 ghost use mathlib.Core.List.{[]};
 ghost use mathlib.Core.Path.{_≡_};
 ghost use Prim.Native.Nat.{_+_, _≤_};
-ghost use lib.Dec.{ltb};
 ghost use lib.ListN.{length, replicate};
 ghost use Rattle.refusal.specs.Answer.{accepted, refused, wordSaid};
-ghost use Rattle.line.specs.Line.{mostBytes, shaped, lineOf, output};
+ghost use Rattle.line.specs.Line.{mostBytes, mostInfo, shaped, lineOf, output};
 ghost use Rattle.line.specs.Post.{Holds, refusalIn};
 
 mod text;
@@ -24,14 +22,17 @@ const MOST_BYTES: usize = 8192;
 const MOST_INFO: usize = 1000;
 
 // One byte more than an input may have: so a longer one is told from the longest.
-pub const ROOM: usize = 8193;
+pub const ROOM: usize = MOST_BYTES + 1;
 
-// The survivors of as many info bits, for K7: 1,006 steps of 64 states.
-const SURVIVORS: usize = 64384;
+// The survivors of as many info bits in the widest code.
+const SURVIVORS: usize = (MOST_INFO + trellis::WIDEST) * trellis::MOST_STATES;
 
-// A line stands at the front of its bytes, and zeros behind it. The longest has 1,021.
+// The bytes of a line: the longest has 21 more than info bits.
+const LINE_BYTES: usize = MOST_INFO + 24;
+
+// A line stands at the front of its bytes, and zeros behind it.
 pub struct Line {
-    pub bytes: [u8; 1024],
+    pub bytes: [u8; LINE_BYTES],
     pub count: usize,
 }
 
@@ -55,18 +56,6 @@ fn is_shaped(n: usize) -> bool
     n % 4 == 0
 }
 
-// The info count to decode. Beyond the program's limit it is one that the decoder refuses too, in the
-// same order: so an unknown code or rate still comes first.
-fn asked(info: usize) -> usize
-    ensures { λ r. ⌜ r ≡ cond (ltb 1000 info) 4097 info ⌝ }
-{
-    if MOST_INFO < info {
-        refusal::MOST + 1
-    } else {
-        info
-    }
-}
-
 // The refusal in an answer that is not a word.
 fn refusal_in(answer: Decoded) -> Refusal
     ensures { λ r. ⌜ refused (r .number) (r .place) ≡ refusalIn (wordSaid answer) ⌝ }
@@ -83,7 +72,7 @@ fn refusal_in(answer: Decoded) -> Refusal
 fn refused_line(r: Refusal) -> Line
     ensures { λ l. ⌜ Holds (lineOf (refused (r .number) (r .place)) []) l ⌝ }
 {
-    let mut bytes = [0; 1024];
+    let mut bytes = [0; LINE_BYTES];
     let number_at = put(&mut bytes[..], 0, b"refused ");
     let at_at = put_decimal(&mut bytes[..], number_at, r.number as u32);
     let place_at = put(&mut bytes[..], at_at, b" at ");
@@ -93,10 +82,10 @@ fn refused_line(r: Refusal) -> Line
 }
 
 fn word_line(word: &[u8], score: f32) -> Line
-    requires { ⌜ length (now word) ≤ 1000 ⌝ }
+    requires { ⌜ length (now word) ≤ mostInfo ⌝ }
     ensures { λ l. ⌜ Holds (lineOf (accepted score) (now (word .entry))) l ⌝ }
 {
-    let mut bytes = [0; 1024];
+    let mut bytes = [0; LINE_BYTES];
     let word_at = put(&mut bytes[..], 0, b"word ");
     let score_at = put_word(&mut bytes[..], word_at, word);
     let bits_at = put(&mut bytes[..], score_at, b" score ");
@@ -116,12 +105,16 @@ pub fn answer(input: &[u8]) -> Line
         });
     }
     let info = (input[2] as usize) + 256 * (input[3] as usize);
+    let number = encoder::refused_choice(input[0], input[1], info, MOST_INFO);
+    if number != 0 {
+        return refused_line(Refusal { number, place: 0 });
+    }
     let mut word = [0; MOST_INFO];
     let mut scratch = [0; SURVIVORS];
     let decoded = readings::viterbi_decode_bytes(
         input[0],
         &input[4..],
-        asked(info),
+        info,
         input[1],
         &mut word[..],
         &mut scratch[..],

@@ -9,8 +9,9 @@ use lib.Dec.{ltb}
 use lib.Ieee.{Float}
 use lib.ListN.{length, take}
 use lib.Seq.{take-all, length-take-le}
-use Rattle.encoder.specs.Encode.{lengthOf}
-use Rattle.encoder.proofs.Checks as checks
+use Rattle.encoder.specs.Encode.{codedLengthOf}
+use Rattle.encoder.specs.Promise.{Decides}
+use Rattle.encoder.proofs.Checks.{choice-refused, choice-passes, checked-past}
 use Rattle.f32s.specs.Single.{finite}
 use Rattle.refusal.specs.declared.Decoded.the-variants as decoded
 use Rattle.refusal.specs.Answer.{Said, accepted, refused, refuseWhen, Scores}
@@ -20,22 +21,28 @@ use Rattle.refusal.specs.Limits.{most}
 use Rattle.refusal.proofs.FirstBad.{some-bad, none-bad, accepted-past-bad}
 use Rattle.refusal.proofs.Over.{both-accepted}
 use Rattle.refusal.proofs.Told.{accepted-told, accepted-past}
-use Rattle.trellis.specs.Choice.{codes, codeOf, patterns, patternOf}
+use Rattle.trellis.specs.declared.KeepPattern.{KeepPattern}
+use Rattle.trellis.specs.Choice.{codeOf, patternOf, keepOf}
 use Rattle.trellis.specs.Codeword.{stepsOf}
-use Rattle.trellis.proofs.Chosen.{code-narrow, rate-pattern}
+use Rattle.trellis.proofs.Chosen.{code-width, code-narrow, rate-pattern}
+use Rattle.trellis.specs.Keep.{codedLength}
+use Rattle.trellis.proofs.Columns.{rows-pattern}
 use Rattle.trellis.proofs.Kept.{coded-le}
 use Rattle.readings.specs.Decode.{score}
-use Rattle.readings.specs.Inner.{UsedOf, FindsAt}
+use Rattle.readings.specs.Inner.{Usable, UsedOf, FindsAt}
 use Rattle.readings.specs.Promise.{Decodes}
 use Rattle.readings.specs.Said.{mostReadings, survivorsOf, examined, decodeSaid}
 use Rattle.readings.proofs.Counts.{length-word, length-filled}
-use Rattle.readings.proofs.Selected.{code-width}
 
 -- ---- which readings are used
 
-pub length-few : (code rate info : ℕ) → info ≤ most → lengthOf code rate info ≤ mostReadings
+pub length-few : (code rate info : ℕ) → info ≤ most → codedLengthOf code rate info ≤ mostReadings
 length-few code rate info h =
-    omega (arith, coded-le (patternOf rate) (rate-pattern rate) (stepsOf (codeOf code) info), code-width code)
+    omega (arith, coded-le (patternOf code rate) (rate-pattern code rate) (stepsOf (codeOf code) info), code-width code)
+
+pub usable-few : {keep : KeepPattern} {steps : ℕ} → Usable keep steps → codedLength (keepOf keep) steps ≤ mostReadings
+usable-few {keep} {steps} usable =
+    omega (arith, coded-le (keepOf keep) (rows-pattern keep (usable .pattern)) steps, usable .few)
 
 pub uses-all : (need count coded : ℕ) → coded ≡ need → need ≤ mostReadings → count < coded → UsedOf need count count
 uses-all need count coded e few h =
@@ -72,7 +79,7 @@ module _ (code rate info : ℕ) (readings : List Float) (room scratch : ℕ) whe
   -- what is still tested once the tests before have passed
   abbrev readings-tested : Said Float
   readings-tested =
-      examined (take (lengthOf code rate info) readings) (accepted (score (codeOf code) (patternOf rate) readings info))
+      examined (take (codedLengthOf code rate info) readings) (accepted (score (codeOf code) (patternOf code rate) readings info))
 
   abbrev scratch-tested : Said Float
   scratch-tested = refuseWhen (ltb scratch (survivorsOf code info)) 5 readings-tested
@@ -80,78 +87,69 @@ module _ (code rate info : ℕ) (readings : List Float) (room scratch : ℕ) whe
   abbrev room-tested : Said Float
   room-tested = refuseWhen (ltb room info) 4 scratch-tested
 
-  pub no-code : length codes ≤ code → said ≡ refused 1 0
-  unfolding decodeSaid
-  no-code h = checks.no-code code rate info room-tested h
-
-  module _ (a : code < length codes) where
-    pub no-rate : length patterns ≤ rate → said ≡ refused 2 0
+  module _ {number : ℕ} (decides : Decides most code rate info number) where
+    pub no-choice : (number ≡ 0 → ⊥) → said ≡ refused number 0
     unfolding decodeSaid
-    no-rate h = checks.no-rate code rate info room-tested a h
+    no-choice h = choice-refused decides room-tested h
 
-    module _ (b : rate < length patterns) where
-      pub too-many : most < info → said ≡ refused 3 0
+    module _ (c : number ≡ 0) where
+      few-enough : said ≡ room-tested
       unfolding decodeSaid
-      too-many h = checks.too-many code rate info room-tested a b h
+      few-enough = choice-passes decides c room-tested
 
-      module _ (c : info ≤ most) where
-        few-enough : said ≡ room-tested
-        unfolding decodeSaid
-        few-enough = checks.passes code rate info room-tested a b c
+      pub no-room : room < info → said ≡ refused 4 0
+      no-room h = few-enough ∙ rw (lt-ltb room info h)
 
-        pub no-room : room < info → said ≡ refused 4 0
-        no-room h = few-enough ∙ rw (lt-ltb room info h)
+      module _ (d : info ≤ room) {rows : ℕ} (same : rows ≡ survivorsOf code info) where
+        room-enough : said ≡ scratch-tested
+        room-enough = few-enough ∙ rw (le-ltb room info d)
 
-        module _ (d : info ≤ room) where
-          room-enough : said ≡ scratch-tested
-          room-enough = few-enough ∙ rw (le-ltb room info d)
+        pub no-scratch : scratch < rows → said ≡ refused 5 0
+        no-scratch h = room-enough ∙ rw (lt-ltb scratch (survivorsOf code info) (omega (arith, same, h)))
 
-          pub no-scratch : scratch < survivorsOf code info → said ≡ refused 5 0
-          no-scratch h = room-enough ∙ rw (lt-ltb scratch (survivorsOf code info) h)
+        module _
+            (e : rows ≤ scratch) {used bad : ℕ} (is : UsedOf (codedLengthOf code rate info) (length readings) used)
+            (of-bad : bad ≡ firstBad finite (take used readings)) where
+          scratch-enough : said ≡ readings-tested
+          scratch-enough = room-enough ∙ rw (le-ltb scratch (survivorsOf code info) (omega (arith, same, e)))
 
-          module _
-              (e : survivorsOf code info ≤ scratch) {used bad : ℕ} (is : UsedOf (lengthOf code rate info) (length readings) used)
-              (of-bad : bad ≡ firstBad finite (take used readings)) where
-            scratch-enough : said ≡ readings-tested
-            scratch-enough = room-enough ∙ rw (le-ltb scratch (survivorsOf code info) e)
+          counted : length (take (codedLengthOf code rate info) readings) ≡ used
+          counted = used-counted (codedLengthOf code rate info) used readings is
 
-            counted : length (take (lengthOf code rate info) readings) ≡ used
-            counted = used-counted (lengthOf code rate info) used readings is
+          found : bad ≡ firstBad finite (take (codedLengthOf code rate info) readings)
+          found = of-bad ∙ ap (firstBad finite) (used-taken (codedLengthOf code rate info) used readings is)
 
-            found : bad ≡ firstBad finite (take (lengthOf code rate info) readings)
-            found = of-bad ∙ ap (firstBad finite) (used-taken (lengthOf code rate info) used readings is)
+          pub bad-reading : bad < used → said ≡ refused 6 bad
+          bad-reading h =
+              scratch-enough
+              ∙ some-bad finite 6 (take (codedLengthOf code rate info) readings) _ bad found (omega (arith, counted))
 
-            pub bad-reading : bad < used → said ≡ refused 6 bad
-            bad-reading h =
-                scratch-enough
-                ∙ some-bad finite 6 (take (lengthOf code rate info) readings) _ bad found (omega (arith, counted))
-
-            pub good-readings : used ≤ bad → said ≡ accepted (score (codeOf code) (patternOf rate) readings info)
-            good-readings h =
-                scratch-enough
-                ∙ none-bad finite 6 (take (lengthOf code rate info) readings) _ bad found (omega (arith, counted))
+          pub good-readings : used ≤ bad → said ≡ accepted (score (codeOf code) (patternOf code rate) readings info)
+          good-readings h =
+              scratch-enough
+              ∙ none-bad finite 6 (take (codedLengthOf code rate info) readings) _ bad found (omega (arith, counted))
 
   -- ---- what is accepted
 
-  pub accepted-score : (s : Float) → said ≡ accepted s → s ≡ score (codeOf code) (patternOf rate) readings info
+  pub accepted-score : (s : Float) → said ≡ accepted s → s ≡ score (codeOf code) (patternOf code rate) readings info
   unfolding decodeSaid
   accepted-score s e =
-      let few : room-tested ≡ accepted s = checks.checked-past code rate info room-tested s e in
+      let few : room-tested ≡ accepted s = checked-past code rate info room-tested s e in
       let fits : scratch-tested ≡ accepted s = accepted-past (ltb room info) 4 scratch-tested s few in
       let rows-fit : readings-tested ≡ accepted s = accepted-past (ltb scratch (survivorsOf code info)) 5 readings-tested s fits in
-      sym (accepted-told _ s (accepted-past-bad finite 6 (take (lengthOf code rate info) readings) _ s rows-fit))
+      sym (accepted-told _ s (accepted-past-bad finite 6 (take (codedLengthOf code rate info) readings) _ s rows-fit))
 
 -- ---- what a decoding leaves is what it promises
 
 pub finds-decodes :
     (code rate info : ℕ) (readings : List Float) {r : Float} {out scratch : Lent ℕ} →
     decodeSaid code rate info readings (length (out .given)) (length (scratch .given))
-    ≡ accepted (score (codeOf code) (patternOf rate) readings info) →
+    ≡ accepted (score (codeOf code) (patternOf code rate) readings info) →
     FindsAt code rate info readings r out scratch → Decodes (Scores (decoded.Word r)) code rate info readings out scratch
 unfolding over
 finds-decodes code rate info readings {r} {out} {scratch} accepts finds =
     let chosen = codeOf code in
-    let p = patternOf rate in
+    let p = patternOf code rate in
     both-accepted accepts (ap accepted (finds .scored))
     (finds .output ∙ rw (length-word chosen p readings info))
     (finds .survivors ∙ rw (length-filled chosen (code-narrow code .some) p readings (stepsOf chosen info)))

@@ -15,7 +15,7 @@ use Rattle.best_path.specs.Rows.{firstRows}
 use Rattle.best_path.specs.Step.{Cell}
 use Rattle.best_path.specs.Run.{stepFrom, metsAfter, survivors}
 use Rattle.best_path.proofs.Simulation.{traced-same}
-use Rattle.encoder.specs.Encode.{lengthOf}
+use Rattle.encoder.specs.Encode.{codedLengthOf}
 use Rattle.f32s.specs.Single.{zero32}
 use Rattle.refusal.specs.Answer.{Said, refused, refuseWhen}
 use Rattle.refusal.specs.Limits.{most}
@@ -106,7 +106,7 @@ refused-leaves false true new old = refl
 refused-leaves false false new old = refl
 
 module _ (code rate info : ℕ) (readings : List Float) (room scratch n : ℕ) (enough : mostReadings ≤ n) where
-  within : info ≤ most → lengthOf code rate info ≤ n
+  within : info ≤ most → codedLengthOf code rate info ≤ n
   within h = omega (arith, length-few code rate info h)
 
   pub surplus-said : decodeSaid code rate info (take n readings) room scratch ≡ decodeSaid code rate info readings room scratch
@@ -116,15 +116,15 @@ module _ (code rate info : ℕ) (readings : List Float) (room scratch n : ℕ) (
         | yes many ↦ rw (lt-ltb most info many)
         | no few ↦
             rw (
-              take-take (lengthOf code rate info) n readings (within (omega arith)),
-              score-taken (codeOf code) (patternOf rate) (rate-pattern rate) readings n info (within (omega arith)),
+              take-take (codedLengthOf code rate info) n readings (within (omega arith)),
+              score-taken (codeOf code) (patternOf code rate) (rate-pattern code rate) readings n info (within (omega arith)),
             )
       ]
 
   -- past the limit on info nothing is written
   many-leave : most < info → (new old : List ℕ) → leaves (decodeSaid code rate info readings room scratch) new old ≡ old
   unfolding decodeSaid
-  many-leave h new old = rw (lt-ltb most info h) (refused-leaves (not (knownCode code)) (not (knownRate rate)) new old)
+  many-leave h new old = rw (lt-ltb most info h) (refused-leaves (not (knownCode code)) (not (knownRate code rate)) new old)
 
   -- so what a call would write has to be the same up to the limit only
   surplus-leaves :
@@ -140,20 +140,20 @@ module _ (code rate info : ℕ) (readings : List Float) (room scratch n : ℕ) (
 
   pub surplus-output :
       (old : List ℕ) →
-      leaves (decodeSaid code rate info (take n readings) room scratch) (word (codeOf code) (patternOf rate) (take n readings) info) old
-      ≡ leaves (decodeSaid code rate info readings room scratch) (word (codeOf code) (patternOf rate) readings info) old
+      leaves (decodeSaid code rate info (take n readings) room scratch) (word (codeOf code) (patternOf code rate) (take n readings) info) old
+      ≡ leaves (decodeSaid code rate info readings room scratch) (word (codeOf code) (patternOf code rate) readings info) old
   surplus-output old =
-      surplus-leaves _ _ old (λ h. word-taken (codeOf code) (patternOf rate) (rate-pattern rate) readings n info (within h))
+      surplus-leaves _ _ old (λ h. word-taken (codeOf code) (patternOf code rate) (rate-pattern code rate) readings n info (within h))
 
   pub surplus-scratch :
       (old : List ℕ) →
       leaves (decodeSaid code rate info (take n readings) room scratch)
-      (filledRows (codeOf code) (patternOf rate) (take n readings) (stepsOf (codeOf code) info)) old
+      (filledRows (codeOf code) (patternOf code rate) (take n readings) (stepsOf (codeOf code) info)) old
       ≡ leaves (decodeSaid code rate info readings room scratch)
-      (filledRows (codeOf code) (patternOf rate) readings (stepsOf (codeOf code) info)) old
+      (filledRows (codeOf code) (patternOf code rate) readings (stepsOf (codeOf code) info)) old
   surplus-scratch old =
       let steps = stepsOf (codeOf code) info in
-      surplus-leaves _ _ old (λ h. rows-taken (codeOf code) (patternOf rate) (rate-pattern rate) readings n steps (within h))
+      surplus-leaves _ _ old (λ h. rows-taken (codeOf code) (patternOf code rate) (rate-pattern code rate) readings n steps (within h))
 
 -- ---- as they come from bytes, to a list with room for those that may be used
 

@@ -9,13 +9,12 @@ use Rattle.refusal.specs.Lent.{Lent}
 use Rattle.refusal.specs.Limits.{most}
 use Rattle.trellis.specs.declared.ConvCode.{ConvCode}
 use Rattle.trellis.specs.declared.KeepPattern.{KeepPattern}
-use Rattle.trellis.specs.Choice.{codeOf, patternOf}
+use Rattle.trellis.specs.Choice.{k7, codeOf, patternOf}
 use Rattle.trellis.specs.Codeword.{stepsOf}
 use Rattle.trellis.specs.Keep.{Keep}
 use Rattle.trellis.specs.Post.{Rows, Halved, Crossed}
 use Rattle.branches.specs.Largest.{mark, largest}
 use Rattle.readings.specs.Decode.{mets, word, score, filledRows}
-use Rattle.readings.specs.Said.{survivorsOf}
 use Rattle.readings.specs.Sums.{brings}
 
 -- ---- one step
@@ -76,17 +75,17 @@ pub record Finds
       scratch .left
       ≡ filledRows code p readings (stepsOf code info) ++ drop (stepsOf code info * states) (scratch .given)
 
--- `decode_at`: the same for the code and the keep pattern of their numbers
-pub record DecodableAt (code info : ℕ) (out scratch : List ℕ) : Type 0 where
-  pub few : info ≤ most
-  pub room : info ≤ length out
-  pub rows : survivorsOf code info ≤ length scratch
-
+-- the same for what a code number and a rate number select
 abbrev pub FindsAt : (code rate info : ℕ) → List Float → Float → (out scratch : Lent ℕ) → Type 0
 FindsAt code rate info readings r out scratch =
-    Finds (codeOf code) (patternOf rate) (2 ^ codeOf code .width) info readings r out scratch
+    Finds (codeOf code) (patternOf code rate) (2 ^ codeOf code .width) info readings r out scratch
 
 -- ---- which readings are used
+
+-- `used_of`: a keep pattern as the code holds it, and steps that an info count within the limit has
+pub record Usable (keep : KeepPattern) (steps : ℕ) : Type 0 where
+  pub pattern : Rows keep
+  pub few : steps ≤ stepsOf k7 most
 
 -- `used_of`: as many as are needed, where there are so many; few enough for a place
 pub record UsedOf (need count used : ℕ) : Type 0 where

@@ -16,8 +16,8 @@ use Rattle.readings.specs.Said.{decodeSaid}
 abbrev pub Decodes : (Said Float → Type 0) → (code rate info : ℕ) → List Float → (out scratch : Lent ℕ) → Type 0
 Decodes Answers code rate info readings out scratch =
     WritesBoth Answers (decodeSaid code rate info readings (length (out .given)) (length (scratch .given)))
-    (word (codeOf code) (patternOf rate) readings info) out
-    (filledRows (codeOf code) (patternOf rate) readings (stepsOf (codeOf code) info)) scratch
+    (word (codeOf code) (patternOf code rate) readings info) out
+    (filledRows (codeOf code) (patternOf code rate) readings (stepsOf (codeOf code) info)) scratch
 
 -- `viterbi_decode_bytes`: the same of readings as four bytes each, low first
 abbrev pub DecodesBytes :

@@ -4,7 +4,7 @@ use Prim.Native.Nat.{ℕ, _*_, _^_}
 use lib.Dec.{ltb}
 use lib.Ieee.{Float}
 use lib.ListN.{take}
-use Rattle.encoder.specs.Encode.{lengthOf, checked}
+use Rattle.encoder.specs.Encode.{codedLengthOf, checked}
 use Rattle.f32s.specs.Single.{finite}
 use Rattle.refusal.specs.Answer.{Said, accepted, refuseWhen}
 use Rattle.refusal.specs.First.{firstBad, refuseAtBad}
@@ -32,5 +32,5 @@ decodeSaid code rate info readings room scratch =
     checked code rate info
     (refuseWhen (ltb room info) 4
     (refuseWhen (ltb scratch (survivorsOf code info)) 5
-    (examined (take (lengthOf code rate info) readings)
-    (accepted (score (codeOf code) (patternOf rate) readings info)))))
+    (examined (take (codedLengthOf code rate info) readings)
+    (accepted (score (codeOf code) (patternOf code rate) readings info)))))

@@ -1,15 +1,13 @@
 // The block decoder of readings: what it refuses, and which code and keep pattern it runs.
 ghost use mathlib.Core.Path.{_≡_};
-ghost use Prim.Native.Nat.{_-_, _*_, _^_, _≤_};
-ghost use Rattle.encoder.specs.Encode.{lengthOf};
+ghost use Prim.Native.Nat.{_-_, _*_, _^_};
 ghost use Rattle.refusal.specs.Answer.{Scores, wordSaid, refused};
 ghost use Rattle.refusal.specs.Lent.{lent};
-ghost use Rattle.refusal.specs.Limits.{most};
 ghost use Rattle.trellis.specs.Choice.{keepOf};
+ghost use Rattle.trellis.specs.Keep.{codedLength};
 ghost use Rattle.trellis.specs.Post.{Narrow};
-ghost use Rattle.readings.specs.Inner.{Decodable, Finds, DecodableAt, FindsAt, UsedOf};
+ghost use Rattle.readings.specs.Inner.{Decodable, Finds, Usable, UsedOf};
 ghost use Rattle.readings.specs.Promise.{Decodes, DecodesBytes};
-ghost use Rattle.readings.specs.Said.{survivorsOf};
 
 mod forward_pass;
 
@@ -48,23 +46,6 @@ fn half_of(code: ConvCode) -> usize
     one << (code.width - 1)
 }
 
-// The same for the code and the keep pattern of their numbers.
-fn decode_at(
-    code: u8,
-    rate: u8,
-    readings: &[f32],
-    info: usize,
-    out: &mut [u8],
-    scratch: &mut [u8],
-) -> f32
-    requires { ⌜ DecodableAt code info (now out) (now scratch) ⌝ }
-    ensures { λ r. ⌜ FindsAt code rate info (now (readings .entry)) r (lent out) (lent scratch) ⌝ }
-{
-    let chosen = trellis::conv_code(code);
-    let keep = trellis::matrix(rate);
-    decode(chosen, half_of(chosen), keep, readings, info, out, scratch)
-}
-
 // The refusal of a call whose answer is a word.
 fn no_word(number: u8, place: u32) -> Decoded
     ensures { λ r. ⌜ wordSaid r ≡ refused number place ⌝ }
@@ -83,32 +64,30 @@ pub fn viterbi_decode_soft_with(
 ) -> Decoded
     ensures { λ r. ⌜ Decodes (Scores r) code rate info (now (readings .entry)) (lent out) (lent scratch) ⌝ }
 {
-    if trellis::CODES <= code {
-        return no_word(1, 0);
-    }
-    if trellis::RATES <= rate {
-        return no_word(2, 0);
-    }
-    if refusal::MOST < info {
-        return no_word(3, 0);
+    let number = encoder::refused_choice(code, rate, info, refusal::MOST);
+    if number != 0 {
+        return no_word(number, 0);
     }
     if out.len() < info {
         return no_word(4, 0);
     }
-    if scratch.len() < survivors_of(code, info) {
+    let chosen = trellis::choose(code, rate);
+    let half = half_of(chosen.code);
+    let steps = info + chosen.code.width;
+    if scratch.len() < steps * (2 * half) {
         return no_word(5, 0);
     }
-    let used = used_of(code, rate, info, readings.len());
+    let used = used_of(chosen.keep, steps, readings.len());
     let bad = refusal::first_bad(&readings[..used]);
     if bad < used {
         return no_word(6, bad as u32);
     }
-    let score = decode_at(code, rate, readings, info, out, scratch);
+    let score = decode(chosen.code, half, chosen.keep, readings, info, out, scratch);
     Decoded::Word(score)
 }
 
-// The most readings that a decoding uses: two for each step, and 6 steps more than info bits.
-pub const MOST_READINGS: usize = 2 * (refusal::MOST + 6);
+// The most readings that a decoding uses: two for each step of the longest word in the widest code.
+pub const MOST_READINGS: usize = 2 * (refusal::MOST + trellis::WIDEST);
 
 // The same of readings as four bytes each, low first; a last piece under four bytes is surplus.
 pub fn viterbi_decode_bytes(
@@ -126,23 +105,11 @@ pub fn viterbi_decode_bytes(
     viterbi_decode_soft_with(code, &values[..count], info, rate, out, scratch)
 }
 
-// How many survivors there are: steps times states.
-fn survivors_of(code: u8, info: usize) -> usize
-    requires { ⌜ info ≤ most ⌝ }
-    ensures { λ r. ⌜ r ≡ survivorsOf code info ⌝ }
-{
-    let chosen = trellis::conv_code(code);
-    let steps = info + chosen.width;
-    let half = half_of(chosen);
-    steps * (2 * half)
-}
-
 // How many readings are used, of those that there are.
-fn used_of(code: u8, rate: u8, info: usize, count: usize) -> usize
-    requires { ⌜ info ≤ most ⌝ }
-    ensures { λ r. ⌜ UsedOf (lengthOf code rate info) count r ⌝ }
+fn used_of(keep: KeepPattern, steps: usize, count: usize) -> usize
+    requires { ⌜ Usable keep steps ⌝ }
+    ensures { λ r. ⌜ UsedOf (codedLength (keepOf keep) steps) count r ⌝ }
 {
-    let chosen = trellis::conv_code(code);
-    let coded = trellis::coded_len(trellis::matrix(rate), info + chosen.width);
+    let coded = trellis::coded_len(keep, steps);
     if count < coded { count } else { coded }
 }

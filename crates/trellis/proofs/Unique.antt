@@ -11,10 +11,11 @@ use Rattle.trellis.specs.declared.ConvCode.{ConvCode}
 use Rattle.trellis.specs.declared.KeepPattern.{KeepPattern}
 use Rattle.trellis.specs.declared.Pair.{Pair}
 use Rattle.trellis.specs.declared.Planes.{Planes}
+use Rattle.trellis.specs.declared.Selected.{Selected}
 use Rattle.trellis.specs.Post.{Blank}
 use Rattle.trellis.proofs.Even.{Filled}
 use Rattle.trellis.proofs.conv_code.Reads as conv-code
-use Rattle.trellis.proofs.matrix.Reads as matrix
+use Rattle.trellis.proofs.choose.Reads as choose
 use Rattle.trellis.proofs.branch_bits.Reads as branch-bits
 use Rattle.trellis.proofs.sent_by_even.Reads as sent-by-even
 use Rattle.trellis.proofs.next_state.Reads as next-state
@@ -28,9 +29,12 @@ pub conv-code-determined :
     (κs : _) (given : _) (r r' : ConvCode) (left left' : _) → conv-code.Post κs given r left → conv-code.Post κs given r' left' → r ≡ r'
 conv-code-determined κs given r r' left left' p q = p ∙ sym q
 
-pub matrix-determined :
-    (κs : _) (given : _) (r r' : KeepPattern) (left left' : _) → matrix.Post κs given r left → matrix.Post κs given r' left' → r ≡ r'
-matrix-determined κs given r r' left left' p q = p ∙ sym q
+abbrev selected : ConvCode → KeepPattern → Selected
+selected code keep = record { code = code; keep = keep }
+
+pub choose-determined :
+    (κs : _) (given : _) (r r' : Selected) (left left' : _) → choose.Post κs given r left → choose.Post κs given r' left' → r ≡ r'
+choose-determined κs given r r' left left' p q = ap₂ selected (p .taps ∙ sym (q .taps)) (p .rows ∙ sym (q .rows))
 
 pub branch-bits-determined :
     (κs : _) (given : _) (r r' : Pair) (left left' : _) → branch-bits.Post κs given r left → branch-bits.Post κs given r' left' → r ≡ r'

@@ -1,4 +1,4 @@
--- What the code and rate numbers select. Definitions only.
+-- What a code number and a rate number select together: one table, an entry for each code number. Definitions only.
 use mathlib.Core.Bool.{Bool}
 use mathlib.Core.List.{List, [], _∷_, _++_}
 use Prim.Native.Nat.{ℕ, _-_}
@@ -15,22 +15,12 @@ k5 = record { width = 4; g0 = 0b10101; g1 = 0b10011 }
 abbrev pub k7 : ConvCode
 k7 = record { width = 6; g0 = 0b1111001; g1 = 0b1011011 }
 
--- the codes by their numbers
-abbrev pub codes : List ConvCode
-codes = k5 ∷ k7 ∷ []
-
-abbrev pub knownCode : ℕ → Bool
-knownCode n = ltb n (length codes)
-
-unfoldable pub codeOf : ℕ → ConvCode
-codeOf n = getD codes n k5
-
 abbrev pub half : Keep
 half = record { row0 = 1 ∷ []; row1 = 1 ∷ [] }
 
--- the keep patterns by the numbers of their rates: 1/2, 2/3, 3/4, 5/6, 7/8
-abbrev pub patterns : List Keep
-patterns =
+-- the keep patterns of the Rust, by the numbers of their rates: 1/2, 2/3, 3/4, 5/6, 7/8
+abbrev pub usual : List Keep
+usual =
     half
     ∷ record { row0 = 1 ∷ 1 ∷ []; row1 = 1 ∷ 0 ∷ [] }
     ∷ record { row0 = 1 ∷ 1 ∷ 0 ∷ []; row1 = 1 ∷ 0 ∷ 1 ∷ [] }
@@ -38,11 +28,47 @@ patterns =
     ∷ record { row0 = 1 ∷ 1 ∷ 1 ∷ 1 ∷ 0 ∷ 1 ∷ 0 ∷ []; row1 = 1 ∷ 0 ∷ 0 ∷ 0 ∷ 1 ∷ 0 ∷ 1 ∷ [] }
     ∷ []
 
-abbrev pub knownRate : ℕ → Bool
-knownRate n = ltb n (length patterns)
+-- what a code number selects: a code, and for each rate number a keep pattern
+pub record Coding : Type 0 where
+  pub code : ConvCode
+  pub patterns : List Keep
 
-unfoldable pub patternOf : ℕ → Keep
-patternOf n = getD patterns n half
+-- the table
+abbrev pub codings : List Coding
+codings =
+    record { code = k5; patterns = usual }
+    ∷ record { code = k7; patterns = usual }
+    ∷ []
+
+-- its entry of a code number, K5's where the number is no code's
+unfoldable pub codingOf : ℕ → Coding
+codingOf code = getD codings code (record { code = k5; patterns = usual })
+
+unfoldable pub codeOf : ℕ → ConvCode
+unfolding codingOf
+codeOf code = codingOf code .code
+
+-- of a list of keep patterns that of a rate number, and 1/2's where the number is no rate's
+unfoldable pub patternIn : List Keep → ℕ → Keep
+patternIn patterns rate = getD patterns rate half
+
+unfoldable pub patternOf : (code rate : ℕ) → Keep
+unfolding codingOf patternIn
+patternOf code rate = patternIn (codingOf code .patterns) rate
+
+-- how many codes there are, and how many rates a code has; their numbers count from 0
+abbrev pub codes : ℕ
+codes = length codings
+
+unfoldable pub ratesOf : ℕ → ℕ
+unfolding codingOf
+ratesOf code = length (codingOf code .patterns)
+
+abbrev pub knownCode : ℕ → Bool
+knownCode code = ltb code codes
+
+abbrev pub knownRate : (code rate : ℕ) → Bool
+knownRate code rate = ltb rate (ratesOf code)
 
 abbrev toSeven : List ℕ → List ℕ
 toSeven row = row ++ replicate (7 - length row) 0

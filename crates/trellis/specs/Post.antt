@@ -3,10 +3,17 @@ use mathlib.Core.List.{List}
 use mathlib.Core.Path.{_≡_}
 use Prim.Native.Nat.{ℕ, _-_, _*_, _%_, _^_, _≤_, _<_}
 use lib.ListN.{length, getD}
+use Rattle.trellis.specs.declared.Selected.{Selected}
 use Rattle.trellis.specs.declared.ConvCode.{ConvCode}
 use Rattle.trellis.specs.declared.KeepPattern.{KeepPattern}
 use Rattle.trellis.specs.declared.Pair.{Pair}
+use Rattle.trellis.specs.Choice.{codeOf, patternOf, heldOf}
 use Rattle.trellis.specs.State.{window, parityOf}
+
+-- `choose`: the code and the keep pattern of two numbers
+pub record Chooses (code rate : ℕ) (r : Selected) : Type 0 where
+  pub taps : r .code ≡ codeOf code
+  pub rows : r .keep ≡ heldOf (patternOf code rate)
 
 -- a register of at least one cell, whose window fits a u32 with room to spare
 pub record Narrow (code : ConvCode) : Type 0 where

@@ -2,10 +2,11 @@
 ghost use mathlib.Core.Path.{_≡_};
 ghost use Prim.Native.Nat.{_+_, _%_, _<_, _≤_, _^_};
 ghost use lib.ListN.{take};
-ghost use Rattle.trellis.specs.Choice.{codeOf, patternOf, heldOf, keepOf};
+ghost use Rattle.trellis.specs.Choice.{patternIn, codeOf, heldOf, keepOf};
+ghost use Rattle.trellis.specs.Choice as choice;
 ghost use Rattle.trellis.specs.Keep.{onesOf, codedLength};
 ghost use Rattle.trellis.specs.State.{window, parityOf, nextState};
-ghost use Rattle.trellis.specs.Post.{Taken, Branched, Rows, Halved, Crossed, Blank};
+ghost use Rattle.trellis.specs.Post.{Chooses, Taken, Branched, Rows, Halved, Crossed, Blank};
 
 // A code: the register's width K - 1, and the tap words over the window of K bits, whose top bit
 // is the input.
@@ -27,9 +28,14 @@ const K5: ConvCode = ConvCode {
     g1: 0b10011,
 };
 
+// The widest register of all, and how many states it has.
+pub const WIDEST: usize = 6;
+
+pub const MOST_STATES: usize = 64;
+
 // The inner code of DVB-T: octal 171 and 133.
 const K7: ConvCode = ConvCode {
-    width: 6,
+    width: WIDEST,
     g0: 0b1111001,
     g1: 0b1011011,
 };
@@ -71,27 +77,52 @@ const KEEP_7_8: KeepPattern = KeepPattern {
     row1: [1, 0, 0, 0, 1, 0, 1],
 };
 
-// The code of a number, K5 where the number is no code's.
-pub fn conv_code(code: u8) -> ConvCode
-    ensures { λ r. ⌜ r ≡ codeOf code ⌝ }
-{
-    match code {
-        1 => K7,
-        _ => K5,
-    }
-}
-
-// The keep pattern of a rate's number, that of 1/2 where the number is no rate's.
-pub fn matrix(rate: u8) -> KeepPattern
-    ensures { λ r. ⌜ r ≡ heldOf (patternOf rate) ⌝ }
+// The keep patterns of the Rust, that of 1/2 where the number is no rate's.
+fn usual(rate: u8) -> KeepPattern
+    ensures { λ r. ⌜ r ≡ heldOf (patternIn choice.usual rate) ⌝ }
 {
     match rate {
+        0 => KEEP_1_2,
         1 => KEEP_2_3,
         2 => KEEP_3_4,
         3 => KEEP_5_6,
         4 => KEEP_7_8,
         _ => KEEP_1_2,
     }
+}
+
+// What a code number and a rate number select together.
+pub struct Selected {
+    pub code: ConvCode,
+    pub keep: KeepPattern,
+}
+
+// One arm for each code number, K5's where the number is no code's.
+pub fn choose(code: u8, rate: u8) -> Selected
+    ensures { λ r. ⌜ Chooses code rate r ⌝ }
+{
+    match code {
+        0 => Selected {
+            code: K5,
+            keep: usual(rate),
+        },
+        1 => Selected {
+            code: K7,
+            keep: usual(rate),
+        },
+        _ => Selected {
+            code: K5,
+            keep: usual(rate),
+        },
+    }
+}
+
+// The code alone.
+pub fn conv_code(code: u8) -> ConvCode
+    ensures { λ r. ⌜ r ≡ codeOf code ⌝ }
+{
+    let chosen = choose(code, 0);
+    chosen.code
 }
 
 fn parity(w: u32, taps: u32) -> u8

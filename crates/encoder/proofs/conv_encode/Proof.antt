@@ -17,8 +17,9 @@ returns-2 c = writes-refused (plain-short _ _ (omega arith) (omega arith)) (c .n
 
 encode-at-requires : tie.Need-encode-at-requires
 encode-at-requires c κs =
+    let k5 : tie.After-choose = search in
     let start : tie.Start = search in
-    omega (arith, length-plain (length (start .args .bits .now)))
+    record { chooses = k5 .choose .ensures; room = omega (arith, length-plain (length (start .args .bits .now))) }
 
 returns-3 : tie.Need-returns-3
 returns-3 c =
@@ -28,4 +29,5 @@ returns-3 c =
 pub conv-encode-spec : {M : Type 1} → statement M
 conv-encode-spec =
     tie.close
-    (tie.spec (search needs) returns (search needs) (search needs) returns-2 encode-at-requires (search needs) returns-3)
+    (tie.spec (search needs) returns (search needs) (search needs) returns-2
+    (search needs) encode-at-requires (search needs) returns-3)

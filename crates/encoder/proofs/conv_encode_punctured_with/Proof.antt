@@ -1,62 +1,67 @@
--- `encoder::conv_encode_punctured_with`: what the coded length refuses is refused, then a short output. Assumes nothing.
-use mathlib.Core.Path.{refl, ap}
+-- `encoder::conv_encode_punctured_with`: refusals 1 to 3, then a short output, then the codeword. Assumes nothing.
+use mathlib.Core.Path.{refl, _∙_}
 use native.Mathlib.Omega.{arith}
 use borrow.Author.Needs.{needs}
-use lib.ListN.{length}
-use Rattle.refusal.specs.Answer.{countSaid}
 use Rattle.refusal.proofs.Over.{writes-refused, writes-accepted}
-use Rattle.encoder.proofs.Checks.{length-passed, length-refused, said-short, said-fits}
-use Rattle.encoder.proofs.Selected.{chosen-narrow, length-chosen, codeword-left}
+use Rattle.encoder.proofs.Checks.{choice-few, encode-refused, encode-short, encode-fits}
+use Rattle.encoder.proofs.Selected.{chosen-narrow, chosen-rows, length-chosen, ready-at, codeword-left}
 use Rattle.encoder.proofs.conv_encode_punctured_with.Statement.{statement}
 use Rattle.encoder.proofs.conv_encode_punctured_with.Tie as tie
 
 returns : tie.Need-returns
 returns c =
-    let measured : tie.After-punctured-coded-len-with = search in
-    let (refusal, is) = c .enum-told .given in
-    writes-refused (length-refused _ _ _ (measured .punctured-coded-len-with .ensures) is _) (ap countSaid is) refl
+    let decided : tie.After-refused-choice = search in
+    writes-refused (encode-refused (decided .refused-choice .ensures) (c .before .if1 .taken) _) (c .no-count .ensures) refl
+
+add-steps : tie.Need-add-steps
+add-steps c =
+    let chosen : tie.After-choose = search in
+    let passed : tie.Else1 = search in
+    let decided : tie.After-refused-choice = search in
+    let few = choice-few (decided .refused-choice .ensures) (passed .if1 .left) in
+    omega (arith, chosen-narrow (chosen .choose .ensures) .narrow, few)
+
+coded-len-requires : tie.Need-coded-len-requires
+coded-len-requires c κs =
+    let chosen : tie.After-choose = search in
+    let passed : tie.Else1 = search in
+    let decided : tie.After-refused-choice = search in
+    let few = choice-few (decided .refused-choice .ensures) (passed .if1 .left) in
+    (chosen-rows (chosen .choose .ensures), omega (arith, chosen-narrow (chosen .choose .ensures) .narrow, few))
 
 returns-2 : tie.Need-returns-2
 returns-2 c =
-    let counted : tie.After-answer = search in
-    let measured : tie.After-punctured-coded-len-with = search in
-    let (need, is) = counted .answer .given in
-    let passed = length-passed _ _ _ (measured .punctured-coded-len-with .ensures) is in
-    writes-refused (said-short passed _ (omega arith)) (c .no-count .ensures) refl
-
-add-encode-at : tie.Need-add-encode-at
-add-encode-at c =
-    let code : tie.After-conv-code = search in
-    let counted : tie.After-answer = search in
-    let measured : tie.After-punctured-coded-len-with = search in
-    let (need, is) = counted .answer .given in
-    let passed = length-passed _ _ _ (measured .punctured-coded-len-with .ensures) is in
-    omega (arith, chosen-narrow _ _ (code .conv-code .ensures) .narrow, passed .few)
+    let short : tie.Then2 = search in
+    let measured : tie.After-coded-len = search in
+    let chosen : tie.After-choose = search in
+    let passed : tie.Else1 = search in
+    let decided : tie.After-refused-choice = search in
+    let need = measured .coded-len .ensures ∙ length-chosen (chosen .choose .ensures) _ in
+    writes-refused (encode-short (decided .refused-choice .ensures) (passed .if1 .left) need _ (short .if2 .taken))
+    (c .no-count2 .ensures) refl
 
 encode-at-requires : tie.Need-encode-at-requires
 encode-at-requires c κs =
-    let code : tie.After-conv-code = search in
-    let counted : tie.After-answer = search in
-    let measured : tie.After-punctured-coded-len-with = search in
-    let start : tie.Start = search in
-    let (need, is) = counted .answer .given in
-    let passed = length-passed _ _ _ (measured .punctured-coded-len-with .ensures) is in
-    let same = length-chosen _ (start .args .rate) _ (code .conv-code .ensures) (length (start .args .info .now)) in
-    omega (arith, same, passed .need)
+    let fits : tie.Else2 = search in
+    let measured : tie.After-coded-len = search in
+    let chosen : tie.After-choose = search in
+    ready-at (chosen .choose .ensures) (measured .coded-len .ensures) (fits .if2 .left)
 
 returns-3 : tie.Need-returns-3
 returns-3 c =
     let sent : tie.After-encode-at = search in
-    let code : tie.After-conv-code = search in
-    let counted : tie.After-answer = search in
-    let measured : tie.After-punctured-coded-len-with = search in
-    let (need, is) = counted .answer .given in
-    let passed = length-passed _ _ _ (measured .punctured-coded-len-with .ensures) is in
-    writes-accepted (said-fits passed _ (omega arith)) refl
-    (codeword-left _ _ _ (code .conv-code .ensures) (sent .encode-at .ensures))
+    let fits : tie.Else2 = search in
+    let measured : tie.After-coded-len = search in
+    let chosen : tie.After-choose = search in
+    let passed : tie.Else1 = search in
+    let decided : tie.After-refused-choice = search in
+    let need = measured .coded-len .ensures ∙ length-chosen (chosen .choose .ensures) _ in
+    writes-accepted (encode-fits (decided .refused-choice .ensures) (passed .if1 .left) need _ (fits .if2 .left)) refl
+    (codeword-left (chosen .choose .ensures) (sent .encode-at .ensures))
 
 pub conv-encode-punctured-with-spec : {M : Type 1} → statement M
 conv-encode-punctured-with-spec =
     tie.close
-    (tie.spec (search needs) (search needs) (search needs) returns (search needs) returns-2
-    (search needs) add-encode-at encode-at-requires (search needs) returns-3)
+    (tie.spec (search needs) (search needs) returns
+    (search needs) add-steps coded-len-requires (search needs) returns-2
+    encode-at-requires (search needs) returns-3)

@@ -8,9 +8,9 @@ use borrow.Author.Needs.{needs}
 use borrow.Author.Tests.{not-true, not-false}
 use lib.ListN.{length, take, drop}
 use lib.Seq.{length-take-le}
-use Rattle.line.specs.Line.{shaped, infoIn}
+use Rattle.line.specs.Line.{mostInfo, shaped, infoIn}
 use Rattle.line.proofs.Decoding.{shaped-long, unshaped-said, output-refused}
-use Rattle.line.proofs.Decoding.{Called, asks-count, refused-output, info-few, word-output}
+use Rattle.line.proofs.Decoding.{Decided, Called, choice-output, refused-output, info-few, word-output}
 use Rattle.line.proofs.Written.{rest-taken}
 use Rattle.line.proofs.answer.Statement.{statement}
 use Rattle.line.proofs.answer.Tie as tie
@@ -54,6 +54,32 @@ mul-info c = omega (arith, c .shared-slice-known3 .given 2, c .shared-slice-know
 add-info : tie.Need-add-info
 add-info c = omega (arith, c .shared-slice-known3 .given 2, c .shared-slice-known3 .given 3)
 
+shared-slice-read-refused-choice : tie.Need-shared-slice-read-refused-choice
+shared-slice-read-refused-choice c =
+    let is-shaped : tie.Else1 = search in
+    omega (arith, long is-shaped)
+
+shared-slice-read-refused-choice-2 : tie.Need-shared-slice-read-refused-choice-2
+shared-slice-read-refused-choice-2 c =
+    let is-shaped : tie.Else1 = search in
+    omega (arith, long is-shaped)
+
+-- its choice is decided
+module _ (c : tie.After-refused-choice) where
+  abbrev shape : tie.Else1
+  shape = search
+
+  abbrev given : List ℕ
+  given = input shape
+
+  choice : Decided given (c .refused-choice .result)
+  choice = record { is = is shape; decides = c .refused-choice .ensures }
+
+returns-2 : tie.Need-returns-2
+returns-2 c =
+    let decided : tie.After-refused-choice = search in
+    rw (choice-output (choice decided) (c .before .if2 .taken)) (c .refused-line2 .ensures)
+
 shared-slice-read-viterbi-decode-bytes : tie.Need-shared-slice-read-viterbi-decode-bytes
 shared-slice-read-viterbi-decode-bytes c =
     let is-shaped : tie.Else1 = search in
@@ -76,51 +102,46 @@ shared-slice-read-viterbi-decode-bytes-2 c =
 
 -- the decoder was called
 module _ (c : tie.After-viterbi-decode-bytes) where
-  abbrev asking : tie.After-asked
-  asking = search
+  abbrev decided : tie.After-refused-choice
+  decided = search
 
-  abbrev shape : tie.Else1
-  shape = search
+  abbrev passed : tie.Else2
+  passed = search
 
-  abbrev given : List ℕ
-  given = input shape
+  abbrev asked : List ℕ
+  asked = given decided
 
-  call : Called given (take (length given - 4) (drop 4 given)) (asking .asked .result) (c .viterbi-decode-bytes .result)
+  call : Called asked (take (length asked - 4) (drop 4 asked)) (decided .refused-choice .result) (c .viterbi-decode-bytes .result)
   call =
       record {
-        is = is shape;
-        asks = asks-count given (asking .asked .result) _ (asking .asked .ensures) refl;
-        behind = rest-taken given 4 (length given) refl;
+        choice = choice decided;
+        passes = passed .if2 .left;
+        behind = rest-taken asked 4 (length asked) refl;
         says = c .viterbi-decode-bytes .ensures .answer;
       }
 
-returns-2 : tie.Need-returns-2
-returns-2 c =
+returns-3 : tie.Need-returns-3
+returns-3 c =
     let told : tie.After-enum-told = search in
     let called : tie.After-viterbi-decode-bytes = search in
     let (refusal, is-refused) = told .enum-told .given in
-    rw (refused-output (call called) is-refused _ _ (c .before .refusal-in .ensures)) (c .refused-line2 .ensures)
+    rw (refused-output (call called) is-refused _ _ (c .before .refusal-in .ensures)) (c .refused-line3 .ensures)
 
 -- and found a word
 module _ (c : tie.After-known-told) where
-  abbrev found : tie.After-decoded
-  found = search
-
   abbrev called : tie.After-viterbi-decode-bytes
   called = search
 
   abbrev info : ℕ
-  info = infoIn (given called)
+  info = infoIn (asked called)
 
   abbrev left : List ℕ
   left = called .viterbi-decode-bytes .last .1 .1 .1 .1 .0
 
-  few : info ≤ 1000
-  few =
-      let (score, is-word) = found .decoded .given in
-      info-few (call called) is-word
+  few : info ≤ mostInfo
+  few = info-few (call called)
 
-  room : length left ≡ 1000
+  room : length left ≡ mostInfo
   room = called .viterbi-decode-bytes .kept .1 .1 .1 .1 .0
 
   front-long : length (take info left) ≡ info
@@ -135,8 +156,8 @@ slice-aggregate-word-line c = sym (front-long (c .before))
 word-line-requires : tie.Need-word-line-requires
 word-line-requires c κs = omega (arith, few (c .before), front-long (c .before))
 
-returns-3 : tie.Need-returns-3
-returns-3 c =
+returns-4 : tie.Need-returns-4
+returns-4 c =
     let known : tie.After-known-told = search in
     let found : tie.After-decoded = search in
     let called : tie.After-viterbi-decode-bytes = search in
@@ -148,8 +169,9 @@ answer-spec =
     tie.close
     (tie.spec (search needs) (search needs) returns
     shared-slice-read-info cast-info shared-slice-read-info-2 cast-info-2 mul-info add-info
+    shared-slice-read-refused-choice shared-slice-read-refused-choice-2 (search needs) (search needs) returns-2
     shared-slice-read-viterbi-decode-bytes sub-viterbi-decode-bytes
-    part-viterbi-decode-bytes-start (search needs) (search needs)
+    part-viterbi-decode-bytes-start (search needs)
     shared-slice-read-viterbi-decode-bytes-2 (search needs) (search needs) (search needs)
-    (search needs) (search needs) (search needs) (search needs) returns-2
-    array-share-prefix-word slice-aggregate-word-line word-line-requires returns-3)
+    (search needs) (search needs) (search needs) (search needs) returns-3
+    array-share-prefix-word slice-aggregate-word-line word-line-requires returns-4)
