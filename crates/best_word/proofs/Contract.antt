@@ -8,7 +8,7 @@ use Prim.Native.Nat.{ℕ}
 use native.Mathlib.Nat.{le-refl}
 use native.Mathlib.Omega.{arith}
 use lib.Dec.{ltb}
-use lib.Ieee.{Float}
+use lib.Ieee.{Float, nan}
 use lib.IntN.{ℤ}
 use lib.ListN.{length, take}
 use lib.Seq.{take-at}
@@ -62,7 +62,7 @@ module _ (code rate info : ℕ) (readings : List Float) (room scratch : ℕ) whe
       (zs : List ℤ) → Exact (codeOf code) (patternOf rate) info readings zs → (rest : Said Float) → examined used rest ≡ rest
   finite-used zs exact rest =
       let whole = exact .whole in
-      let all = all-good finite used (λ i h. whole-finite (whole .each i (omega (arith, whole .sized)))) in
+      let all = all-good finite nan used (λ i h. whole-finite (whole .each i (omega (arith, whole .sized)))) in
       none-bad finite 6 used rest (length used) (sym all) (le-refl (length used))
 
   -- so no test is left that refuses with 6
