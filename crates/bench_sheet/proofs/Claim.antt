@@ -9,12 +9,12 @@ use Rattle.best_word.specs.Claim.{agreement}
 use Rattle.best_path.specs.Run.{stepFrom, metsAfter, survivors, traced}
 use Rattle.best_path.specs.Step.{relaxed, visit, visits, step}
 use Rattle.binary.specs.Digits.{digits}
-use Rattle.readings.specs.Decode.{mets, froms, word, score}
-use Rattle.readings.specs.Places.{place0, place1}
-use Rattle.readings.specs.Sums.{correlation, gain}
+use Rattle.correlation.specs.Decode.{mets, froms, word, score}
+use Rattle.correlation.specs.Gain.{correlation, gain}
 use Rattle.trellis.specs.Choice.{patternOf}
 use Rattle.trellis.specs.Codeword.{windowAt, coded0, coded1, sentBy, lowestBits, zeroTailed, codeword}
 use Rattle.trellis.specs.Keep.{keepsBy, keptOf, keptThrough, onesOf, codedLength}
+use Rattle.trellis.specs.Places.{place0, place1}
 use Rattle.trellis.specs.Register.{tapped, codedBit, shifted, registerAfter}
 use Rattle.trellis.specs.State.{parityOf, nextState}
 use Rattle.varicode_words.specs.Word.{lengthOf, wordOf, bitsOf, found, decodeOf}

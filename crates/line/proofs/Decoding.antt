@@ -13,9 +13,10 @@ use lib.Ieee.{Float}
 use lib.ListN.{length, take, drop, replicate}
 use lib.Pow.{pow-mono}
 use lib.Seq.{take-at}
+use Rattle.correlation.proofs.Counts.{length-word}
 use Rattle.readings.specs.Decode.{word}
 use Rattle.readings.specs.Said.{survivorsOf, decodeSaid}
-use Rattle.readings.proofs.Counts.{length-word}
+use Rattle.readings.specs.Sums.{soft}
 use Rattle.readings.proofs.Selected.{code-width}
 use Rattle.f32s.specs.Single.{allOfBytes}
 use Rattle.refusal.specs.Answer.{accepted, refused, refuseWhen, wordSaid}
@@ -131,7 +132,7 @@ module _ {input bytes : List ℕ} {asked : ℕ} {answer : Decoded} (call : Calle
       unfolding wordIn over
       front-word =
           ap (take (infoIn input)) left-word
-          ∙ take-at (wordIn input) _ (infoIn input) (length-word (codeOf (codeIn input)) (patternOf (rateIn input)) (readingsIn input) (infoIn input))
+          ∙ take-at (wordIn input) _ (infoIn input) (length-word soft (codeOf (codeIn input)) (patternOf (rateIn input)) (readingsIn input) (infoIn input))
 
       pub word-output : output input ≡ lineOf (accepted score) (take (infoIn input) left)
       unfolding output

@@ -9,6 +9,7 @@ use lib.Dec.{ltb}
 use lib.Ieee.{Float}
 use lib.ListN.{length, take}
 use lib.Seq.{take-all, length-take-le}
+use Rattle.correlation.proofs.Counts.{length-word, length-filled}
 use Rattle.encoder.specs.Encode.{lengthOf}
 use Rattle.encoder.proofs.Checks as checks
 use Rattle.f32s.specs.Single.{finite}
@@ -28,7 +29,7 @@ use Rattle.readings.specs.Decode.{score}
 use Rattle.readings.specs.Inner.{UsedOf, FindsAt}
 use Rattle.readings.specs.Promise.{Decodes}
 use Rattle.readings.specs.Said.{mostReadings, survivorsOf, examined, decodeSaid}
-use Rattle.readings.proofs.Counts.{length-word, length-filled}
+use Rattle.readings.specs.Sums.{soft}
 use Rattle.readings.proofs.Selected.{code-width}
 
 -- ---- which readings are used
@@ -153,5 +154,5 @@ finds-decodes code rate info readings {r} {out} {scratch} accepts finds =
     let chosen = codeOf code in
     let p = patternOf rate in
     both-accepted accepts (ap accepted (finds .scored))
-    (finds .output ∙ rw (length-word chosen p readings info))
-    (finds .survivors ∙ rw (length-filled chosen (code-narrow code .some) p readings (stepsOf chosen info)))
+    (finds .output ∙ rw (length-word soft chosen p readings info))
+    (finds .survivors ∙ rw (length-filled soft chosen p readings (code-narrow code .some) (stepsOf chosen info)))

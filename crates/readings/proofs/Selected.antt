@@ -7,6 +7,7 @@ use native.Mathlib.Omega.{arith}
 use lib.Dec.{lit≤}
 use lib.Ieee.{Float}
 use lib.Pow.{pow-mono}
+use Rattle.correlation.specs.Inner.{Decodable}
 use Rattle.encoder.proofs.Selected.{chosen-narrow, chosen-rows, keep-chosen}
 use Rattle.refusal.specs.Lent.{Lent}
 use Rattle.refusal.specs.Limits.{most}
@@ -17,7 +18,7 @@ use Rattle.trellis.specs.Codeword.{stepsOf}
 use Rattle.trellis.specs.Post.{Halved}
 use Rattle.trellis.proofs.Chosen.{code-narrow, code-ends}
 use Rattle.trellis.proofs.States.{states-two-halves}
-use Rattle.readings.specs.Inner.{Decodable, Finds, DecodableAt, FindsAt}
+use Rattle.readings.specs.Inner.{Finds, DecodableAt, FindsAt}
 use Rattle.readings.specs.Said.{survivorsOf}
 
 pub code-width : (n : ℕ) → codeOf n .width ≤ 6

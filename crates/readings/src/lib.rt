@@ -1,13 +1,14 @@
 // The block decoder of readings: what it refuses, and which code and keep pattern it runs.
 ghost use mathlib.Core.Path.{_≡_};
 ghost use Prim.Native.Nat.{_-_, _*_, _^_, _≤_};
+ghost use Rattle.correlation.specs.Inner.{Decodable};
 ghost use Rattle.encoder.specs.Encode.{lengthOf};
 ghost use Rattle.refusal.specs.Answer.{Scores, wordSaid, refused};
 ghost use Rattle.refusal.specs.Lent.{lent};
 ghost use Rattle.refusal.specs.Limits.{most};
 ghost use Rattle.trellis.specs.Choice.{keepOf};
 ghost use Rattle.trellis.specs.Post.{Narrow};
-ghost use Rattle.readings.specs.Inner.{Decodable, Finds, DecodableAt, FindsAt, UsedOf};
+ghost use Rattle.readings.specs.Inner.{Finds, DecodableAt, FindsAt, UsedOf};
 ghost use Rattle.readings.specs.Promise.{Decodes, DecodesBytes};
 ghost use Rattle.readings.specs.Said.{survivorsOf};
 
