@@ -16,8 +16,9 @@ use Rattle.trellis.specs.Keep.{codedLength}
 use Rattle.varicode.specs.Reader.{nothingHeard, lettersFrom}
 use Rattle.varicode.specs.Writer.{byte, streamFrom}
 
--- a line: the coded bits of an info word at a rate; the coded lengths of an info count at the five rates; the word, and the score, that readings are
--- decoded to; the bits that a fresh writer puts for a text; the characters that a fresh reader takes from bits
+-- a line: the coded bits of an info word at a rate; the coded lengths of an info count at the five rates; the word, and
+-- the score, that readings are decoded to; two words whose scores are equal; the bits that a fresh writer puts for a text;
+-- the characters that a fresh reader takes from bits
 pub data Line : Type 0 where
   coded : (code : ConvCode) (rate : ℕ) (info bits : List ℕ) → Line
   lengths : (code : ConvCode) (count : ℕ) (atRates : List ℕ) → Line
@@ -33,7 +34,8 @@ Holds (lengths code count atRates) =
     map (λ (rate : ℕ). codedLength (patternOf rate) (stepsOf code count)) (0 ∷ 1 ∷ 2 ∷ 3 ∷ 4 ∷ []) ≡ atRates
 Holds (decodes code rate heard bits) = word code (patternOf rate) heard (length bits) ≡ bits
 Holds (scores code rate count heard is) = score code (patternOf rate) heard count ≡ is
-Holds (ties code rate count whole u v) = scoreOf code (patternOf rate) count u whole ≡ scoreOf code (patternOf rate) count v whole
+Holds (ties code rate count whole u v) =
+    scoreOf code (patternOf rate) count u whole ≡ scoreOf code (patternOf rate) count v whole
 Holds (writes text bits) = streamFrom true (map byte text) ≡ bits
 Holds (reads bits text) = lettersFrom nothingHeard bits ≡ text
 

@@ -64,7 +64,8 @@ module _ (code : ConvCode) (some : 0 < code .width) (p : Keep) (good : Pattern p
           tailed-bits code u (is .bits),
           tailed-bits code decoded (decoded-is-word .bits),
         )
-        (⊎-elim (λ h. inl h) (λ h. inr (h .0, ⊎-elim (λ e. inl (append-cancel-right decoded u (replicate (code .width) 0) e)) (λ a. inr a) (h .1)))
+        (⊎-elim (λ h. inl h)
+        (λ h. inr (h .0, ⊎-elim (λ e. inl (append-cancel-right decoded u (replicate (code .width) 0) e)) (λ a. inr a) (h .1)))
         (best-decoded .1 .best .best _ (info-leads code some info u (is .sized) (is .bits)) .beats))
 
     decoded-wins : (u : List ℕ) → InfoWord info u → ltZ (points decoded zs) (points u zs) ≡ false

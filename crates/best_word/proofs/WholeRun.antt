@@ -262,7 +262,8 @@ module _
   word-whole =
       ap (take info) (traced-agree some (simulated code some p good readings zs steps are small) steps 0 (le-refl steps))
 
-  pub score-whole : (z : ℤ) → getD (any.mets exactly code p zs (stepsOf code info)) 0 none ≡ total z → score code p readings info ≡ floatOf z
+  pub score-whole :
+      (z : ℤ) → getD (any.mets exactly code p zs (stepsOf code info)) 0 none ≡ total z → score code p readings info ≡ floatOf z
   unfolding any.score
   score-whole z e =
       let last = mets-whole code some p good readings zs steps are small steps 0 (le-refl steps) (pow-pos (code .width)) in

@@ -1,4 +1,5 @@
--- What a branch brings: how its coded pair correlates with what its two places read. Over any arithmetic. Definitions only.
+-- What a branch brings: how its coded pair correlates with what its two places read. Over any arithmetic. Definitions
+-- only.
 use mathlib.Core.Bool.{cond}
 use mathlib.Core.List.{List, map}
 use Prim.Native.Nat.{ℕ}

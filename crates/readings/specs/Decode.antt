@@ -1,5 +1,5 @@
--- The block decoder of readings: its word, its score, and what it leaves in scratch. The definitions over any kind of decoder
--- are in crate `correlation`; these are theirs in f32. Definitions only.
+-- The block decoder of readings: its word, its score, and what it leaves in scratch. Each is the definition of crate
+-- `correlation`, over any kind of decoder, in f32. Definitions only.
 use mathlib.Core.List.{List}
 use Prim.Native.Nat.{ℕ}
 use lib.Ieee.{Float}

@@ -1,5 +1,5 @@
--- What the inner functions ask and ensure. What a decoder of any kind asks and ensures is in crate `correlation`. Definitions
--- only.
+-- What the inner functions ask and ensure. What is said there of any kind of decoder is in crate `correlation`.
+-- Definitions only.
 use mathlib.Core.List.{List}
 use mathlib.Core.Path.{_≡_}
 use Prim.Native.Nat.{ℕ, _^_, _≤_, _<_}

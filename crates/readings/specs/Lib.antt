@@ -1,5 +1,5 @@
--- Sums: readings that are f32s, and what their branches bring. Decode: word, score and survivors. Said: what the decoder
--- answers, for every input. Promise: what the entries and their door promise. Inner: what the inner functions ask and ensure.
+-- Sums: correlations and metrics in f32. Decode: word, score and survivors. Said: what the decoder answers, for every
+-- input. Promise: what the entries and their door promise. Inner: what the inner functions ask and ensure.
 pub mod Sums
 pub mod Decode
 pub mod Said

@@ -1,5 +1,5 @@
--- Readings that are f32s: correlations and metrics in f32, each operation rounded once. The definitions over any arithmetic are
--- in crate `correlation`; these are theirs in f32. Definitions only.
+-- Readings that are f32s: correlations and metrics in f32, each operation rounded once. What is defined over any
+-- arithmetic is in crate `correlation`. Definitions only.
 use mathlib.Core.List.{List}
 use Prim.Native.Nat.{ℕ}
 use lib.Ieee.{Float, binary32, add, sub, neg}
@@ -28,7 +28,7 @@ soft = record { on = floats; op = largest; first = zero32 }
 abbrev pub valueOf : places.Place Float → Float
 valueOf place = places.valueOf zero32 place
 
--- What the branches of step t bring: a+b, a-b, (-a)+b, (-a)-b for the coded pairs 00, 01, 10, 11, where the step's places read a
--- and b.
+-- What the branches of step t bring, whose places read a and b: a+b, a-b, (-a)+b, (-a)-b for the coded pairs 00, 01, 10,
+-- 11.
 abbrev pub gain : ConvCode → Keep → List Float → ℕ → ℕ → ℕ → Float
 gain code p readings t = any.gain floats code p readings t

@@ -2,7 +2,7 @@
 -- read, d, is not seen. Assumes nothing.
 use mathlib.Core.Bool.{Bool, true, false}
 use mathlib.Core.List.{List, [], _∷_}
-use mathlib.Core.Path.{_≡_, refl}
+use mathlib.Core.Path.{_≡_, refl, sym, ap, _∙_}
 use Prim.Native.Nat.{ℕ, zero, suc, _+_, _≤_, _<_}
 use native.Mathlib.Omega.{arith}
 use borrow.Author.Tests.{eq-eqb, ne-eqb}
@@ -44,15 +44,17 @@ reading-taken (x ∷ xs) (suc n) (suc i) h = reading-taken xs n i (omega arith)
 -- ---- what a place reads, by the tests of the code
 
 module _ {A : Type 0} (nought : A) (column : ℕ) (readings : List A) (at : ℕ) where
-  pub reads-received :
-      (d : A) → column ≡ 1 → at < length readings → getD readings at d ≡ valueOf nought (filled (eqb column 1) readings at)
-  reads-received d e h = rw (eq-eqb column 1 e, reading-received d readings at h)
+  abbrev reads : Bool → A
+  reads kept = valueOf nought (filled kept readings at)
 
-  pub reads-missing : column ≡ 1 → length readings ≤ at → nought ≡ valueOf nought (filled (eqb column 1) readings at)
-  reads-missing e h = rw (eq-eqb column 1 e, reading-missing readings at h)
+  pub reads-received : (d : A) → column ≡ 1 → at < length readings → getD readings at d ≡ reads (eqb column 1)
+  reads-received d e h = sym (ap (valueOf nought) (reading-received d readings at h)) ∙ ap reads (sym (eq-eqb column 1 e))
 
-  pub reads-deleted : (column ≡ 1 → ⊥) → nought ≡ valueOf nought (filled (eqb column 1) readings at)
-  reads-deleted e = rw (ne-eqb column 1 e)
+  pub reads-missing : column ≡ 1 → length readings ≤ at → nought ≡ reads (eqb column 1)
+  reads-missing e h = sym (ap (valueOf nought) (reading-missing readings at h)) ∙ ap reads (sym (eq-eqb column 1 e))
+
+  pub reads-deleted : (column ≡ 1 → ⊥) → nought ≡ reads (eqb column 1)
+  reads-deleted e = ap reads (sym (ne-eqb column 1 e))
 
 -- ---- a step reads no further than the coded length of the steps up to it
 

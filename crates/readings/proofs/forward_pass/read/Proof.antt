@@ -10,7 +10,8 @@ returns : tie.Need-returns
 returns c =
     let kept : tie.Then1 = search in
     let start : tie.Start = search in
-    reads-received zero32 (start .args .column) (start .args .readings .now) (start .args .at) nan (kept .if1 .taken) (c .before .if2 .taken)
+    reads-received zero32 (start .args .column) (start .args .readings .now) (start .args .at) nan (kept .if1 .taken)
+    (c .before .if2 .taken)
 
 returns-2 : tie.Need-returns-2
 returns-2 c =
