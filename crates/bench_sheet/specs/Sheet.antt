@@ -17,7 +17,7 @@ use Rattle.varicode.specs.Reader.{nothingHeard, lettersFrom}
 use Rattle.varicode.specs.Writer.{byte, streamFrom}
 
 -- a line: the coded bits of an info word at a rate; the coded lengths of an info count at the five rates; the word, and
--- the score, that readings are decoded to; two words whose scores are equal; the bits that a fresh writer puts for a text;
+-- the score, that readings are decoded to; two words that score the same; the bits that a fresh writer puts for a text;
 -- the characters that a fresh reader takes from bits
 pub data Line : Type 0 where
   coded : (code : ConvCode) (rate : ℕ) (info bits : List ℕ) → Line

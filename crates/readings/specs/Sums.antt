@@ -28,7 +28,7 @@ soft = record { on = floats; op = largest; first = zero32 }
 abbrev pub valueOf : places.Place Float → Float
 valueOf place = places.valueOf zero32 place
 
--- What the branches of step t bring, whose places read a and b: a+b, a-b, (-a)+b, (-a)-b for the coded pairs 00, 01, 10,
--- 11.
+-- What the branches of step t bring, whose places read a and b: a+b, a-b, (-a)+b, (-a)-b for the coded pairs 00, 01,
+-- 10, 11.
 abbrev pub gain : ConvCode → Keep → List Float → ℕ → ℕ → ℕ → Float
 gain code p readings t = any.gain floats code p readings t
