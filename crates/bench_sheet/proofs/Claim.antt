@@ -6,20 +6,13 @@ use lib.Count.{ones}
 use lib.Ieee.{ofBits, add, sub, neg, lt, le}
 use lib.ListN.{getD}
 use Rattle.best_word.specs.Claim.{agreement}
-use Rattle.best_path.specs.Run.{stepFrom, metsAfter, survivors, traced}
-use Rattle.best_path.specs.Step.{relaxed, visit, visits, step}
-use Rattle.binary.specs.Digits.{digits}
-use Rattle.readings.specs.Decode.{mets, froms, word, score}
-use Rattle.readings.specs.Places.{place0, place1}
-use Rattle.readings.specs.Sums.{correlation, gain}
+use Rattle.correlation.specs.Decode.{word, score}
 use Rattle.trellis.specs.Choice.{codeOf, patternOf}
-use Rattle.trellis.specs.Codeword.{windowAt, coded0, coded1, sentBy, lowestBits, zeroTailed, codeword}
-use Rattle.trellis.specs.Keep.{keepsBy, keptOf, keptThrough, onesOf, codedLength}
-use Rattle.trellis.specs.Register.{tapped, codedBit, shifted, registerAfter}
-use Rattle.trellis.specs.State.{parityOf, nextState}
-use Rattle.varicode_words.specs.Word.{lengthOf, wordOf, bitsOf, found, decodeOf}
-use Rattle.varicode.specs.Reader.{letterAt, heardAfter, lettersFrom}
-use Rattle.varicode.specs.Writer.{bitsPut, firstAfter, streamFrom}
+use Rattle.trellis.specs.Codeword.{codeword}
+use Rattle.trellis.specs.State.{nextState}
+use Rattle.varicode.specs.Reader.{lettersFrom}
+use Rattle.varicode.specs.Writer.{streamFrom}
+use Rattle.varicode_words.specs.Word.{wordOf, bitsOf, decodeOf}
 use Rattle.bench_sheet.specs.Sheet.{Line, reads, AllHold, none, more, sheet}
 use Rattle.bench_sheet.proofs.Tested.{holds}
 
@@ -28,7 +21,7 @@ abbrev lineAt : ℕ → Line
 lineAt n = getD sheet n (reads [] [])
 
 pub claim : AllHold sheet
-unfolding agreement digits tapped codedBit shifted registerAfter keepsBy keptOf keptThrough onesOf codedLength windowAt coded0 coded1 sentBy lowestBits zeroTailed codeword codeOf patternOf lengthOf wordOf bitsOf found decodeOf letterAt heardAfter lettersFrom bitsPut firstAfter streamFrom relaxed visit visits step stepFrom metsAfter survivors traced parityOf nextState place0 place1 correlation gain mets froms word score ones ofBits add sub neg lt le
+unfolding agreement codeword codeOf patternOf lettersFrom streamFrom word score wordOf decodeOf bitsOf ones nextState ofBits add sub neg lt le
 claim =
     more (holds (lineAt 0) refl)
     (more (holds (lineAt 1) refl)

@@ -1,4 +1,5 @@
--- A line of the sheet, tested: what is computed for it and what the sheet says, number by number. A line that passes holds. Assumes nothing.
+-- A line of the sheet, tested: what is computed for it and what the sheet says, number by number. A line that passes holds.
+-- Assumes nothing.
 use mathlib.Core.Bool.{true}
 use mathlib.Core.List.{List, [], _∷_, map}
 use mathlib.Core.Path.{_≡_, sym, subst}

@@ -15,8 +15,9 @@ use Rattle.trellis.specs.Keep.{codedLength}
 use Rattle.varicode.specs.Reader.{nothingHeard, lettersFrom}
 use Rattle.varicode.specs.Writer.{byte, streamFrom}
 
--- a line: the coded bits of an info word at a rate; the coded lengths of an info count at the five rates; the word, and the score, that readings are
--- decoded to; the bits that a fresh writer puts for a text; the characters that a fresh reader takes from bits
+-- a line: the coded bits of an info word at a rate; the coded lengths of an info count at the five rates; the word, and
+-- the score, that readings are decoded to; two words that score the same; the bits that a fresh writer puts for a text;
+-- the characters that a fresh reader takes from bits
 pub data Line : Type 0 where
   coded : (code rate : ℕ) (info bits : List ℕ) → Line
   lengths : (code count : ℕ) (atRates : List ℕ) → Line
@@ -32,7 +33,8 @@ Holds (lengths code count atRates) =
     map (λ (rate : ℕ). codedLength (patternOf code rate) (stepsOf (codeOf code) count)) (0 ∷ 1 ∷ 2 ∷ 3 ∷ 4 ∷ []) ≡ atRates
 Holds (decodes code rate heard bits) = word (codeOf code) (patternOf code rate) heard (length bits) ≡ bits
 Holds (scores code rate count heard is) = score (codeOf code) (patternOf code rate) heard count ≡ is
-Holds (ties code rate count whole u v) = scoreOf (codeOf code) (patternOf code rate) count u whole ≡ scoreOf (codeOf code) (patternOf code rate) count v whole
+Holds (ties code rate count whole u v) =
+    scoreOf (codeOf code) (patternOf code rate) count u whole ≡ scoreOf (codeOf code) (patternOf code rate) count v whole
 Holds (writes text bits) = streamFrom true (map byte text) ≡ bits
 Holds (reads bits text) = lettersFrom nothingHeard bits ≡ text
 

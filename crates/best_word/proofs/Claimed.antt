@@ -1,4 +1,5 @@
--- Demand 3: the decoded word wins, first among equals, and it stays. For any code and keep pattern, and so for those that numbers select. Assumes nothing.
+-- Demand 3: the decoded word wins, first among equals, and it stays. For any code and keep pattern, and so for those that
+-- numbers select. Assumes nothing.
 use mathlib.Core.Bool.{true, false, true≢false}
 use mathlib.Core.List.{List, _++_, append-cancel-right}
 use mathlib.Core.Logic.{_⊎_, inl, inr, ⊎-elim}
@@ -11,6 +12,9 @@ use lib.Signed.{ltZ}
 use Rattle.best_path.specs.Path.{Ahead, gained}
 use Rattle.best_path.proofs.InfoWords.{BestInfo, info-leads, best-info-word}
 use Rattle.best_path.proofs.Order.{AtMost, ltZ-total, ltZ-irrefl, at-most-not-below, at-most-antisym, at-most-rest, ahead-asym}
+use Rattle.correlation.specs.Decode as any
+use Rattle.correlation.specs.Gain.{gain}
+use Rattle.correlation.specs.Whole.{whole}
 use Rattle.f32s.specs.Whole.{floatOf}
 use Rattle.readings.specs.Decode.{word, score}
 use Rattle.trellis.specs.declared.ConvCode.{ConvCode}
@@ -20,7 +24,6 @@ use Rattle.trellis.specs.Keep.{Keep, Pattern, codedLength}
 use Rattle.trellis.proofs.Chosen.{code-narrow, rate-pattern}
 use Rattle.trellis.proofs.Sent.{length-codeword, tailed-bits}
 use Rattle.best_word.specs.Claim.{InfoWord, Exact, Towards, scoreOf, statesOf, Claim}
-use Rattle.best_word.specs.Wholes.{wholeGain}
 use Rattle.best_word.proofs.Score.{gained-codeword}
 use Rattle.best_word.proofs.Towards.{codeword-bits, agreement-towards}
 use Rattle.best_word.proofs.WholeRun.{word-whole, score-whole}
@@ -37,13 +40,18 @@ module _ (code : ConvCode) (some : 0 < code .width) (p : Keep) (good : Pattern p
     abbrev decoded : List ℕ
     decoded = word code p readings info
 
-    best-decoded : (z : ℤ) × BestInfo code (wholeGain code p zs) info decoded z
-    best-decoded = rw (word-whole code some p good readings zs info (exact .whole) (exact .small)) (best-info-word code some (wholeGain code p zs) info)
+    best-decoded : (z : ℤ) × BestInfo code (gain whole code p zs) info decoded z
+    unfolding any.froms
+    best-decoded =
+        rw (word-whole code some p good readings zs info (exact .whole) (exact .small))
+        (best-info-word code some (gain whole code p zs) info)
 
     decoded-is-word : InfoWord info decoded
     decoded-is-word = record { sized = best-decoded .1 .sized; bits = best-decoded .1 .bits }
 
-    gained-points : (u : List ℕ) → InfoWord info u → gained code (wholeGain code p zs) (u ++ replicate (code .width) 0) (stepsOf code info) ≡ points u zs
+    gained-points :
+        (u : List ℕ) → InfoWord info u →
+        gained code (gain whole code p zs) (u ++ replicate (code .width) 0) (stepsOf code info) ≡ points u zs
     gained-points = gained-codeword code some p good zs info
 
     decoded-beats :
@@ -56,7 +64,8 @@ module _ (code : ConvCode) (some : 0 < code .width) (p : Keep) (good : Pattern p
           tailed-bits code u (is .bits),
           tailed-bits code decoded (decoded-is-word .bits),
         )
-        (⊎-elim (λ h. inl h) (λ h. inr (h .0, ⊎-elim (λ e. inl (append-cancel-right decoded u (replicate (code .width) 0) e)) (λ a. inr a) (h .1)))
+        (⊎-elim (λ h. inl h)
+        (λ h. inr (h .0, ⊎-elim (λ e. inl (append-cancel-right decoded u (replicate (code .width) 0) e)) (λ a. inr a) (h .1)))
         (best-decoded .1 .best .best _ (info-leads code some info u (is .sized) (is .bits)) .beats))
 
     decoded-wins : (u : List ℕ) → InfoWord info u → ltZ (points decoded zs) (points u zs) ≡ false
@@ -67,6 +76,7 @@ module _ (code : ConvCode) (some : 0 < code .width) (p : Keep) (good : Pattern p
         ⊎-elim (λ h. absurd (true≢false (sym (rw e at h) ∙ ltZ-irrefl (points decoded zs)))) (λ h. h .1) (decoded-beats u is)
 
     decoded-scored : score code p readings info ≡ floatOf (points decoded zs)
+    unfolding any.mets
     decoded-scored =
         score-whole code some p good readings zs info (exact .whole) (exact .small) (best-decoded .0) (best-decoded .1 .counted)
         ∙ ap floatOf (sym (best-decoded .1 .best .gains-it) ∙ gained-points decoded decoded-is-word)

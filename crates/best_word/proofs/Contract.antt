@@ -8,17 +8,18 @@ use Prim.Native.Nat.{ℕ}
 use native.Mathlib.Nat.{le-refl}
 use native.Mathlib.Omega.{arith}
 use lib.Dec.{ltb}
-use lib.Ieee.{Float}
+use lib.Ieee.{Float, nan}
 use lib.IntN.{ℤ}
 use lib.ListN.{length, take}
 use lib.Seq.{take-at}
+use Rattle.correlation.proofs.Counts.{length-word}
 use Rattle.f32s.specs.Single.{finite, allOfBytes}
 use Rattle.f32s.proofs.Wholes.{whole-finite}
 use Rattle.readings.specs.Decode.{word, score}
 use Rattle.readings.specs.Promise.{Decodes}
 use Rattle.readings.specs.Said.{survivorsOf, examined, decodeSaid}
+use Rattle.readings.specs.Sums.{soft}
 use Rattle.readings.proofs.Answers.{accepted-score}
-use Rattle.readings.proofs.Counts.{length-word}
 use Rattle.readings.proofs.viterbi_decode_bytes.Reads as viterbi-decode-bytes
 use Rattle.readings.proofs.viterbi_decode_soft_with.Reads as viterbi-decode-soft-with
 use Rattle.refusal.specs.Answer.{Said, accepted, refused, refuseWhen, Scores}
@@ -55,14 +56,14 @@ module _ (code rate info : ℕ) (readings : List Float) (room scratch : ℕ) whe
   unfolding over
   written s accepts new old e =
       ap (take info) (e ∙ ap (λ (a : Said Float). leaves a decoded old) accepts)
-      ∙ take-at decoded _ info (length-word (codeOf code) (patternOf code rate) readings info)
+      ∙ take-at decoded _ info (length-word soft (codeOf code) (patternOf code rate) readings info)
 
   -- whole readings are finite
   finite-used :
       (zs : List ℤ) → Exact (codeOf code) (patternOf code rate) info readings zs → (rest : Said Float) → examined used rest ≡ rest
   finite-used zs exact rest =
       let whole = exact .whole in
-      let all = all-good finite used (λ i h. whole-finite (whole .each i (omega (arith, whole .sized)))) in
+      let all = all-good finite nan used (λ i h. whole-finite (whole .each i (omega (arith, whole .sized)))) in
       none-bad finite 6 used rest (length used) (sym all) (le-refl (length used))
 
   -- so no test is left that refuses with 6

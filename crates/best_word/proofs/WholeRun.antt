@@ -1,39 +1,45 @@
--- Readings that are whole numbers whose sizes sum to at most 2 ^ 24 are decoded without rounding: the metrics, the survivors and the word are those of
--- the run in whole numbers, and the score is the f32 of its total at state 0, bit for bit. Assumes nothing.
+-- Readings that are whole numbers whose sizes sum to at most 2 ^ 24 are decoded without rounding: the metrics, the survivors and
+-- the word are those of the decoder in whole numbers, and the score is the f32 of its total at state 0, bit for bit. Assumes
+-- nothing.
 use mathlib.Core.Bool.{Bool, true, false, not, cond}
 use mathlib.Core.List.{List, [], _∷_}
 use mathlib.Core.Path.{_≡_, refl, sym, ap, subst, _∙_}
 use Prim.Native.Nat.{ℕ, zero, suc, _+_, _-_, _^_, _≤_, _<_}
+use native.Mathlib.Decide.{decLt}
 use native.Mathlib.Nat.{le-refl, add-zero}
 use native.Mathlib.Numerals.{add-one}
 use native.Mathlib.Omega.{arith}
 use borrow.Author.Tests.{ltb-true, ltb-false}
 use lib.Dec.{ltb, eqb}
-use lib.Ieee.{Float, binary32, ofBits, add, sub, neg, lt, le}
+use lib.Ieee.{Float, nan, binary32, ofBits, add, sub, neg, lt, le}
 use lib.IntN.{ℤ, pos, negsuc, negℤ, natAbs, subℕ, _+ℤ_, _-ℤ_}
-use lib.ListN.{length, getD, take, List·getD-eq-default}
+use lib.ListN.{length, getD, take}
 use lib.Pow.{pow-pos}
 use lib.Seq.{take-nil}
 use Rattle.best_path.specs.Run.{traced}
 use Rattle.best_path.specs.Path.{Total, none, total, wholes, added, isReached, larger, startedWhole}
 use Rattle.best_path.proofs.Simulation.{Simulates, mets-agree, traced-agree}
 use Rattle.best_path.proofs.Start.{others-marked}
+use Rattle.correlation.specs.Decode as any
+use Rattle.correlation.specs.Gain.{correlation, brings, read0, read1, gain}
+use Rattle.correlation.specs.Whole.{whole, exactly}
+use Rattle.correlation.proofs.Surplus.{gain-taken}
 use Rattle.f32s.specs.Single.{zero32}
 use Rattle.f32s.specs.Whole.{Whole, floatOf}
 use Rattle.f32s.proofs.Ordered.{lt-trans, lt-irrefl}
 use Rattle.f32s.proofs.Wholes.{whole-zero, whole-neg, whole-ofInt, whole-add, whole-sub, whole-lt, float-of-zero, ofInt-add}
 use Rattle.f32s.proofs.Wholes.{mark-lt-whole, whole-not-le-mark}
-use Rattle.readings.specs.Places.{valueOf, filled, place0, place1}
 use Rattle.branches.specs.Largest.{mark, largest}
-use Rattle.readings.specs.Sums.{correlation, brings, gain, started}
-use Rattle.readings.specs.Decode.{mets, froms, word, score}
-use Rattle.readings.proofs.Surplus.{gain-taken}
+use Rattle.readings.specs.Decode.{mets, word, score}
+use Rattle.readings.specs.Sums.{floats, soft}
 use Rattle.trellis.specs.declared.ConvCode.{ConvCode}
 use Rattle.trellis.specs.Codeword.{stepsOf}
 use Rattle.trellis.specs.Keep.{Keep, Pattern, keeps0, keeps1, codedLength}
+use Rattle.trellis.specs.Places.{valueOf, filled, place0, place1}
 use Rattle.trellis.specs.State.{window, parityOf}
 use Rattle.trellis.proofs.Kept.{one, coded-suc, coded-mono}
-use Rattle.best_word.specs.Wholes.{WholeReadings, absSum, wholeAt, wholePlace0, wholePlace1, wholeCorrelation, wholeGain, wholeMets, wholeFroms, IsTotal}
+use Rattle.trellis.proofs.Places.{reading-received, reading-missing, reading-value}
+use Rattle.best_word.specs.Wholes.{WholeReadings, absSum, IsTotal}
 
 -- ---- sizes
 
@@ -68,8 +74,13 @@ abs-take-le zs zero = omega arith
 abs-take-le [] (suc n) = omega arith
 abs-take-le (z ∷ zs) (suc n) = omega (arith, abs-take-le zs n)
 
-abs-take-kept : (kept : Bool) (zs : List ℤ) (n : ℕ) → absSum (take (n + one kept) zs) ≡ absSum (take n zs) + natAbs (wholeAt kept zs n)
-abs-take-kept true zs n = rw (add-one n) (abs-take-suc zs n)
+-- what a place reads
+abbrev pub readOf : Bool → List ℤ → ℕ → ℤ
+readOf kept zs n = valueOf (pos 0) (filled kept zs n)
+
+abs-take-kept :
+    (kept : Bool) (zs : List ℤ) (n : ℕ) → absSum (take (n + one kept) zs) ≡ absSum (take n zs) + natAbs (readOf kept zs n)
+abs-take-kept true zs n = rw (add-one n, reading-value (pos 0) zs n) (abs-take-suc zs n)
 abs-take-kept false zs n = simp add-zero
 
 -- the sum of the sizes of what the first t steps read
@@ -79,32 +90,34 @@ sizeRead p zs t = absSum (take (codedLength p t) zs)
 -- each kept place reads a number of its own
 size-read-suc :
     (p : Keep) → Pattern p → (zs : List ℤ) (t : ℕ) →
-    sizeRead p zs (suc t) ≡ sizeRead p zs t + (natAbs (wholePlace0 p zs t) + natAbs (wholePlace1 p zs t))
-unfolding wholePlace0 wholePlace1
+    sizeRead p zs (suc t) ≡ sizeRead p zs t + (natAbs (read0 whole p zs t) + natAbs (read1 whole p zs t))
+unfolding place0 place1
 size-read-suc p good zs t =
     let first = abs-take-kept (keeps0 p t) zs (codedLength p t) in
     let second = abs-take-kept (keeps1 p t) zs (codedLength p t + one (keeps0 p t)) in
-    let counted : codedLength p (suc t) ≡ codedLength p t + one (keeps0 p t) + one (keeps1 p t) = omega (arith, coded-suc p good t) in
+    let counted : codedLength p (suc t) ≡ codedLength p t + one (keeps0 p t) + one (keeps1 p t) =
+    omega (arith, coded-suc p good t) in
     ap (λ (n : ℕ). absSum (take n zs)) counted ∙ omega arith
 
 -- ---- what a branch brings
 
 filled-whole :
     {readings : List Float} {zs : List ℤ} → WholeReadings readings zs → (kept : Bool) (n : ℕ) →
-    Whole (valueOf (filled kept readings n)) (wholeAt kept zs n)
-filled-whole whole false n = whole-zero
-filled-whole {readings} {zs} whole true n = go (ltb n (length readings)) refl
-  where
-    go : (u : Bool) → ltb n (length readings) ≡ u → Whole (valueOf (filled true readings n)) (getD zs n (pos 0))
-    go true h = rw h (whole .each n (omega (arith, ltb-true, whole .sized)))
-    go false h = rw (h, List·getD-eq-default zs (pos 0) {n = n} (omega (arith, ltb-false, whole .sized))) whole-zero
+    Whole (valueOf zero32 (filled kept readings n)) (readOf kept zs n)
+filled-whole are false n = whole-zero
+filled-whole {readings} {zs} are true n =
+    elim (decLt n (length zs)) [
+      | yes h ↦
+          rw (reading-received nan readings n (omega (arith, are .sized)), reading-received (pos 0) zs n h) (are .each n h)
+      | no h ↦ rw (reading-missing readings n (omega (arith, are .sized)), reading-missing zs n (omega arith)) whole-zero
+    ]
 
 -- by which of the coded bits are 0
 abbrev pub signedSum : Bool → Bool → ℤ → ℤ → ℤ
 signedSum p q a b = cond p (cond q (a +ℤ b) (a -ℤ b)) (cond q (negℤ a +ℤ b) (negℤ a -ℤ b))
 
-correlation-size : (a b : ℤ) (c0 c1 : ℕ) → natAbs (wholeCorrelation a b c0 c1) ≤ natAbs a + natAbs b
-unfolding wholeCorrelation
+correlation-size : (a b : ℤ) (c0 c1 : ℕ) → natAbs (correlation whole a b c0 c1) ≤ natAbs a + natAbs b
+unfolding correlation
 correlation-size a b c0 c1 = go (eqb c0 0) (eqb c1 0)
   where
     go : (p q : Bool) → natAbs (signedSum p q a b) ≤ natAbs a + natAbs b
@@ -115,13 +128,14 @@ correlation-size a b c0 c1 = go (eqb c0 0) (eqb c1 0)
 
 correlation-whole :
     {x y : Float} {a b : ℤ} → Whole x a → Whole y b → natAbs a + natAbs b ≤ 2 ^ 24 → (c0 c1 : ℕ) →
-    Whole (correlation x y c0 c1) (wholeCorrelation a b c0 c1)
-unfolding correlation wholeCorrelation
+    Whole (correlation floats x y c0 c1) (correlation whole a b c0 c1)
+unfolding correlation
 correlation-whole {x} {y} {a} {b} v w small c0 c1 = go (eqb c0 0) (eqb c1 0) (correlation-size a b c0 c1)
   where
     go :
         (p q : Bool) → natAbs (signedSum p q a b) ≤ natAbs a + natAbs b →
-        Whole (cond p (cond q (add binary32 x y) (sub binary32 x y)) (cond q (add binary32 (neg x) y) (sub binary32 (neg x) y))) (signedSum p q a b)
+        Whole (cond p (cond q (add binary32 x y) (sub binary32 x y)) (cond q (add binary32 (neg x) y) (sub binary32 (neg x) y)))
+        (signedSum p q a b)
     go true true h = whole-add binary32 v w (omega arith)
     go true false h = whole-sub binary32 v w (omega arith)
     go false true h = whole-add binary32 (whole-neg v) w (omega arith)
@@ -144,7 +158,9 @@ whole-not-lt-mark {x} w small = go (lt x mark) refl
 total-whole : {bound : ℕ} {x : Float} {z : ℤ} → bound ≤ 2 ^ 24 → (x ≡ floatOf z) × (natAbs z ≤ bound) → Whole x z
 total-whole {bound} {x} {z} small h = rw (h .0) (whole-ofInt binary32 z (omega (arith, h .1)))
 
-total-started : (code : ConvCode) (bound s : ℕ) → s < 2 ^ code .width → IsTotal bound (getD (started code) s mark) (getD (startedWhole code) s none)
+total-started :
+    (code : ConvCode) (bound s : ℕ) → s < 2 ^ code .width →
+    IsTotal bound (getD (any.started soft code) s mark) (getD (startedWhole code) s none)
 total-started code bound zero h = (sym float-of-zero, omega arith)
 total-started code bound (suc s) h =
     rw (others-marked wholes code (total (pos 0)) s) (others-marked largest code zero32 s)
@@ -168,7 +184,7 @@ module _ (bound : ℕ) (small : bound ≤ 2 ^ 24) where
 
 module _
     (code : ConvCode) (some : 0 < code .width) (p : Keep) (good : Pattern p) (readings : List Float) (zs : List ℤ) (steps : ℕ)
-    (whole : WholeReadings (take (codedLength p steps) readings) zs) (small : absSum zs ≤ 2 ^ 24) where
+    (are : WholeReadings (take (codedLength p steps) readings) zs) (small : absSum zs ≤ 2 ^ 24) where
   abbrev used : List Float
   used = take (codedLength p steps) readings
 
@@ -181,36 +197,36 @@ module _
   read-small : (t : ℕ) → sizeRead p zs t ≤ 2 ^ 24
   read-small t = omega (arith, abs-take-le zs (codedLength p t))
 
-  used-gain-whole : (t s i : ℕ) → Whole (gain code p used t s i) (wholeGain code p zs t s i)
-  unfolding gain brings wholeGain place0 place1 wholePlace0 wholePlace1
+  used-gain-whole : (t s i : ℕ) → Whole (gain floats code p used t s i) (gain whole code p zs t s i)
+  unfolding gain brings place0 place1
   used-gain-whole t s i =
-      let first = filled-whole whole (keeps0 p t) (codedLength p t) in
-      let second = filled-whole whole (keeps1 p t) (codedLength p t + one (keeps0 p t)) in
+      let first = filled-whole are (keeps0 p t) (codedLength p t) in
+      let second = filled-whole are (keeps1 p t) (codedLength p t + one (keeps0 p t)) in
       correlation-whole first second (omega (arith, size-read-suc p good zs t, read-small (suc t))) (c0 s i) (c1 s i)
 
-  gain-whole : (t s i : ℕ) → t < steps → Whole (gain code p readings t s i) (wholeGain code p zs t s i)
+  gain-whole : (t s i : ℕ) → t < steps → Whole (gain floats code p readings t s i) (gain whole code p zs t s i)
   gain-whole t s i h =
-      subst (λ (g : ℕ → ℕ → Float). Whole (g s i) (wholeGain code p zs t s i))
-      (gain-taken code p good readings (codedLength p steps) t (coded-mono p good (suc t) steps h)) (used-gain-whole t s i)
+      subst (λ (g : ℕ → ℕ → Float). Whole (g s i) (gain whole code p zs t s i))
+      (gain-taken floats code p good readings (codedLength p steps) t (coded-mono p good (suc t) steps h)) (used-gain-whole t s i)
 
-  gain-size : (t s i : ℕ) → natAbs (wholeGain code p zs t s i) ≤ natAbs (wholePlace0 p zs t) + natAbs (wholePlace1 p zs t)
-  unfolding wholeGain
-  gain-size t s i = correlation-size (wholePlace0 p zs t) (wholePlace1 p zs t) (c0 s i) (c1 s i)
+  gain-size : (t s i : ℕ) → natAbs (gain whole code p zs t s i) ≤ natAbs (read0 whole p zs t) + natAbs (read1 whole p zs t)
+  unfolding gain brings
+  gain-size t s i = correlation-size (read0 whole p zs t) (read1 whole p zs t) (c0 s i) (c1 s i)
 
   -- the old total is within what is read so far, so the sum is exact; and the old total is not -0, so neither is the sum
   total-added :
       (t s i : ℕ) → t < steps → (x : Float) (m : Total) → IsTotal (sizeRead p zs t) x m → not (le x mark) ≡ true →
-      IsTotal (sizeRead p zs (suc t)) (add binary32 x (gain code p readings t s i)) (added m (wholeGain code p zs t s i))
+      IsTotal (sizeRead p zs (suc t)) (add binary32 x (gain floats code p readings t s i)) (added m (gain whole code p zs t s i))
   total-added t s i within x none h reached = cc (total-reached (sizeRead p zs t) (read-small t) x none h)
   total-added t s i within x (total z) h reached =
-      let size : natAbs (z +ℤ wholeGain code p zs t s i) ≤ sizeRead p zs (suc t) =
-      omega (arith, h .1, abs-add z (wholeGain code p zs t s i), gain-size t s i, size-read-suc p good zs t) in
-      let summed : add binary32 (floatOf z) (gain code p readings t s i) ≡ floatOf (z +ℤ wholeGain code p zs t s i) =
+      let size : natAbs (z +ℤ gain whole code p zs t s i) ≤ sizeRead p zs (suc t) =
+      omega (arith, h .1, abs-add z (gain whole code p zs t s i), gain-size t s i, size-read-suc p good zs t) in
+      let summed : add binary32 (floatOf z) (gain floats code p readings t s i) ≡ floatOf (z +ℤ gain whole code p zs t s i) =
       ofInt-add binary32 z (omega (arith, h .1, read-small t)) (gain-whole t s i within) in
-      (ap (λ (y : Float). add binary32 y (gain code p readings t s i)) (h .0) ∙ summed, size)
+      (ap (λ (y : Float). add binary32 y (gain floats code p readings t s i)) (h .0) ∙ summed, size)
 
   simulated :
-      Simulates largest wholes code (gain code p readings) (wholeGain code p zs) (started code) (startedWhole code)
+      Simulates largest wholes code (gain floats code p readings) (gain whole code p zs) (any.started soft code) (startedWhole code)
       (λ (t : ℕ). IsTotal (sizeRead p zs t)) steps
   simulated =
       record {
@@ -225,27 +241,30 @@ module _
   metAt t s = getD (mets code p readings t) s mark
 
   abbrev totalAt : ℕ → ℕ → Total
-  totalAt t s = getD (wholeMets code p zs t) s none
+  totalAt t s = getD (any.mets exactly code p zs t) s none
 
   pub mets-whole : (t s : ℕ) → t ≤ steps → s < 2 ^ code .width → IsTotal (absSum zs) (metAt t s) (totalAt t s)
-  unfolding mets
+  unfolding any.mets
   mets-whole t s within h =
-      total-up (sizeRead p zs t) (absSum zs) (abs-take-le zs (codedLength p t)) (metAt t s) (totalAt t s) (mets-agree some simulated t s within h)
+      total-up (sizeRead p zs t) (absSum zs) (abs-take-le zs (codedLength p t)) (metAt t s) (totalAt t s)
+      (mets-agree some simulated t s within h)
 
 -- ---- the answer
 
 module _
     (code : ConvCode) (some : 0 < code .width) (p : Keep) (good : Pattern p) (readings : List Float) (zs : List ℤ) (info : ℕ)
-    (whole : WholeReadings (take (codedLength p (stepsOf code info)) readings) zs) (small : absSum zs ≤ 2 ^ 24) where
+    (are : WholeReadings (take (codedLength p (stepsOf code info)) readings) zs) (small : absSum zs ≤ 2 ^ 24) where
   abbrev steps : ℕ
   steps = stepsOf code info
 
-  pub word-whole : word code p readings info ≡ take info (traced wholes code (wholeFroms code p zs) (stepsOf code info) 0)
-  unfolding word froms
-  word-whole = ap (take info) (traced-agree some (simulated code some p good readings zs steps whole small) steps 0 (le-refl steps))
+  pub word-whole : word code p readings info ≡ take info (traced wholes code (any.froms exactly code p zs) (stepsOf code info) 0)
+  unfolding any.word any.froms
+  word-whole =
+      ap (take info) (traced-agree some (simulated code some p good readings zs steps are small) steps 0 (le-refl steps))
 
-  pub score-whole : (z : ℤ) → getD (wholeMets code p zs (stepsOf code info)) 0 none ≡ total z → score code p readings info ≡ floatOf z
-  unfolding score
+  pub score-whole :
+      (z : ℤ) → getD (any.mets exactly code p zs (stepsOf code info)) 0 none ≡ total z → score code p readings info ≡ floatOf z
+  unfolding any.score
   score-whole z e =
-      let last = mets-whole code some p good readings zs steps whole small steps 0 (le-refl steps) (pow-pos (code .width)) in
+      let last = mets-whole code some p good readings zs steps are small steps 0 (le-refl steps) (pow-pos (code .width)) in
       subst (IsTotal (absSum zs) (getD (mets code p readings steps) 0 mark)) e last .0

@@ -21,7 +21,8 @@ use Rattle.trellis.specs.Codeword.{stepsOf, zeroTailed, codeword}
 use Rattle.trellis.specs.Keep.{Keep, codedLength}
 use Rattle.best_word.specs.Wholes.{WholeReadings, absSum}
 
--- 01's score: over the kept places the sum of the reading where the codeword has 0, and of its negative where it has 1. Missing readings are 0.
+-- 01's score: over the kept places the sum of the reading where the codeword has 0, and of its negative where it has 1.
+-- Missing readings are 0.
 unfoldable pub agreement : List ℕ → List ℤ → ℤ
 agreement [] zs = pos 0
 agreement (c ∷ cs) [] = pos 0

@@ -12,12 +12,13 @@ use lib.Ieee.{Float}
 use lib.ListN.{length, take, drop, replicate}
 use lib.Pow.{pow-mono}
 use lib.Seq.{take-at}
+use Rattle.correlation.proofs.Counts.{length-word}
 use Rattle.encoder.specs.Promise.{Decides}
 use Rattle.encoder.proofs.Checks.{choice-refused, choice-passes, choice-passes-wider, choice-few}
 use Rattle.f32s.specs.Single.{allOfBytes}
 use Rattle.readings.specs.Decode.{word}
 use Rattle.readings.specs.Said.{survivorsOf, decodeSaid}
-use Rattle.readings.proofs.Counts.{length-word}
+use Rattle.readings.specs.Sums.{soft}
 use Rattle.refusal.specs.Answer.{accepted, refused, wordSaid}
 use Rattle.refusal.specs.declared.Decoded.{Decoded}
 use Rattle.refusal.specs.declared.Decoded.the-variants as variants
@@ -127,7 +128,7 @@ module _ {input bytes : List ℕ} {number : ℕ} {answer : Decoded} (call : Call
       front-word =
           ap (take (infoIn input)) left-word
           ∙ take-at (wordIn input) _ (infoIn input)
-          (length-word (codeOf (codeIn input)) (patternOf (codeIn input) (rateIn input)) (readingsIn input) (infoIn input))
+          (length-word soft (codeOf (codeIn input)) (patternOf (codeIn input) (rateIn input)) (readingsIn input) (infoIn input))
 
       pub word-output : output input ≡ lineOf (accepted score) (take (infoIn input) left)
       unfolding output

@@ -5,6 +5,7 @@ use Prim.Native.Nat.{ℕ, _+_, _*_, _%_, _^_}
 use lib.Dec.{ltb, eqb}
 use lib.Ieee.{Float, binary32, toBits}
 use lib.ListN.{length, getD, take, drop}
+use Rattle.correlation.specs.Decode as any
 use Rattle.encoder.specs.Encode.{codedLengthOf, checkedTo}
 use Rattle.f32s.specs.Single.{allOfBytes}
 use Rattle.readings.specs.Decode.{word, score}
@@ -49,7 +50,7 @@ module _ (input : List ℕ) where
 
   -- refusal 10 first, then those of a decoding, with a limit of the program's own
   unfoldable pub lineSaid : Said Float
-  unfolding score
+  unfolding any.score
   lineSaid =
       refuseWhen (not (shaped (length input))) 10
       (checkedTo mostInfo codeIn rateIn infoIn
@@ -57,7 +58,7 @@ module _ (input : List ℕ) where
       (accepted (score (codeOf codeIn) (patternOf codeIn rateIn) readingsIn infoIn))))
 
   unfoldable pub wordIn : List ℕ
-  unfolding word
+  unfolding any.word
   wordIn = word (codeOf codeIn) (patternOf codeIn rateIn) readingsIn infoIn
 
 -- ---- in ASCII

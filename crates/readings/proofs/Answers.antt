@@ -9,6 +9,7 @@ use lib.Dec.{ltb}
 use lib.Ieee.{Float}
 use lib.ListN.{length, take}
 use lib.Seq.{take-all, length-take-le}
+use Rattle.correlation.proofs.Counts.{length-word, length-filled}
 use Rattle.encoder.specs.Encode.{codedLengthOf}
 use Rattle.encoder.specs.Promise.{Decides}
 use Rattle.encoder.proofs.Checks.{choice-refused, choice-passes, checked-past}
@@ -32,7 +33,7 @@ use Rattle.readings.specs.Decode.{score}
 use Rattle.readings.specs.Inner.{Usable, UsedOf, FindsAt}
 use Rattle.readings.specs.Promise.{Decodes}
 use Rattle.readings.specs.Said.{mostReadings, survivorsOf, examined, decodeSaid}
-use Rattle.readings.proofs.Counts.{length-word, length-filled}
+use Rattle.readings.specs.Sums.{soft}
 
 -- ---- which readings are used
 
@@ -151,5 +152,5 @@ finds-decodes code rate info readings {r} {out} {scratch} accepts finds =
     let chosen = codeOf code in
     let p = patternOf code rate in
     both-accepted accepts (ap accepted (finds .scored))
-    (finds .output ∙ rw (length-word chosen p readings info))
-    (finds .survivors ∙ rw (length-filled chosen (code-narrow code .some) p readings (stepsOf chosen info)))
+    (finds .output ∙ rw (length-word soft chosen p readings info))
+    (finds .survivors ∙ rw (length-filled soft chosen p readings (code-narrow code .some) (stepsOf chosen info)))

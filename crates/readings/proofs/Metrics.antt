@@ -12,12 +12,13 @@ use lib.ListN.{getD}
 use lib.Pow.{pow-pos}
 use Rattle.best_path.proofs.Metrics.{metric-kept, metric-holds}
 use Rattle.best_path.proofs.Start.{started-holds}
+use Rattle.correlation.specs.Decode as any
 use Rattle.f32s.specs.Single.{zero32}
 use Rattle.trellis.specs.declared.ConvCode.{ConvCode}
 use Rattle.trellis.specs.Codeword.{stepsOf}
 use Rattle.trellis.specs.Keep.{Keep}
 use Rattle.branches.specs.Largest.{mark, largest}
-use Rattle.readings.specs.Sums.{gain, started}
+use Rattle.readings.specs.Sums.{soft, gain}
 use Rattle.readings.specs.Decode.{mets, score}
 
 abbrev NotNan : Float → Type 0
@@ -41,22 +42,22 @@ zero-not-nan = tt
 
 module _ (code : ConvCode) (some : 0 < code .width) (p : Keep) (readings : List Float) where
   pub metric-not-nan : (t s : ℕ) → s < 2 ^ code .width → NotNan (getD (mets code p readings t) s mark)
-  unfolding mets
+  unfolding any.mets
   metric-not-nan =
-      metric-holds largest NotNan mark-not-nan greater-not-nan code some (gain code p readings) (started code)
+      metric-holds largest NotNan mark-not-nan greater-not-nan code some (gain code p readings) (any.started soft code)
       (λ s h. started-holds largest code zero32 NotNan zero-not-nan mark-not-nan s)
 
   pub score-not-nan : (info : ℕ) → NotNan (score code p readings info)
-  unfolding score
+  unfolding any.score
   score-not-nan info = metric-not-nan (stepsOf code info) 0 (pow-pos (code .width))
 
   pub metric-fits : (t s : ℕ) → s < 2 ^ code .width → T (fits binary32 (getD (mets code p readings t) s mark))
-  unfolding mets
+  unfolding any.mets
   metric-fits =
       metric-kept largest code some (gain code p readings) (λ t m. T (fits binary32 m)) (λ t. ofBits-fits binary32 _)
-      (λ t s i m y h r b. add-fits binary32 m (gain code p readings t s i)) (started code)
+      (λ t s i m y h r b. add-fits binary32 m (gain code p readings t s i)) (any.started soft code)
       (λ s h. started-holds largest code zero32 (λ m. T (fits binary32 m)) (ofBits-fits binary32 _) (ofBits-fits binary32 _) s)
 
   pub score-below : (info : ℕ) → toBits binary32 (score code p readings info) < 2 ^ 32
-  unfolding score
+  unfolding any.score
   score-below info = toBits-lt binary32 _ (metric-fits (stepsOf code info) 0 (pow-pos (code .width)))

@@ -7,6 +7,7 @@ use native.Mathlib.Omega.{arith}
 use lib.Ieee.{Float}
 use lib.ListN.{length}
 use lib.Pow.{pow-mono}
+use Rattle.correlation.specs.Inner.{Decodable}
 use Rattle.encoder.proofs.Selected.{chosen-narrow, chosen-rows, keep-chosen, length-chosen}
 use Rattle.encoder.specs.Encode.{codedLengthOf}
 use Rattle.refusal.specs.Lent.{Lent}
@@ -19,7 +20,7 @@ use Rattle.trellis.specs.Keep.{codedLength}
 use Rattle.trellis.specs.Post.{Chooses, Halved}
 use Rattle.trellis.proofs.Chosen.{code-width, code-narrow, code-ends}
 use Rattle.trellis.proofs.States.{states-two-halves}
-use Rattle.readings.specs.Inner.{Decodable, Finds, FindsAt, Usable, UsedOf}
+use Rattle.readings.specs.Inner.{Finds, FindsAt, Usable, UsedOf}
 use Rattle.readings.specs.Said.{survivorsOf}
 
 pub code-few : (n : ℕ) → 2 ^ (codeOf n .width - 1) ≤ 32

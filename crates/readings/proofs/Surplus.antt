@@ -1,101 +1,30 @@
--- Surplus readings have no part in a decoding: cut off behind those that the steps read, the readings give the same answer and
--- leave the same buffers. Assumes nothing.
+-- Surplus readings have no part in an answer: cut off behind those that may be used, the readings give the same answer and leave
+-- the same buffers. Assumes nothing.
 use mathlib.Core.Bool.{Bool, true, false, not}
-use mathlib.Core.List.{List, _++_, map}
-use mathlib.Core.Path.{_≡_, refl, sym, ap, ap₂, _∙_}
-use Prim.Native.Nat.{ℕ, zero, suc, _+_, _≤_, _<_}
+use mathlib.Core.List.{List, _++_}
+use mathlib.Core.Path.{_≡_, refl, sym, ap, _∙_}
+use Prim.Native.Nat.{ℕ, _≤_, _<_}
 use native.Mathlib.Decide.{decLt}
 use native.Mathlib.Nat.{le-refl}
 use native.Mathlib.Omega.{arith}
 use borrow.Author.Tests.{lt-ltb}
-use lib.Ieee.{Float, nan}
-use lib.ListN.{length, getD, take, drop, replicate, length-append, length-replicate}
-use lib.Seq.{take-all, take-take, length-take-le, getD-take, take-at}
-use Rattle.best_path.specs.Rows.{firstRows}
-use Rattle.best_path.specs.Step.{Cell}
-use Rattle.best_path.specs.Run.{stepFrom, metsAfter, survivors}
-use Rattle.best_path.proofs.Simulation.{traced-same}
+use lib.Ieee.{Float}
+use lib.ListN.{length, take, drop, replicate, length-append, length-replicate}
+use lib.Seq.{take-take, take-at}
+use Rattle.correlation.proofs.Surplus.{rows-taken, word-taken, score-taken}
 use Rattle.encoder.specs.Encode.{codedLengthOf}
 use Rattle.f32s.specs.Single.{zero32}
 use Rattle.refusal.specs.Answer.{Said, refused, refuseWhen}
 use Rattle.refusal.specs.Limits.{most}
 use Rattle.refusal.specs.Lent.{leaves, Lent}
-use Rattle.trellis.specs.declared.ConvCode.{ConvCode}
 use Rattle.trellis.specs.Choice.{knownCode, codeOf, knownRate, patternOf}
 use Rattle.trellis.specs.Codeword.{stepsOf}
-use Rattle.trellis.specs.Keep.{Keep, Pattern, keeps0, keeps1, codedLength}
 use Rattle.trellis.proofs.Chosen.{rate-pattern}
-use Rattle.trellis.proofs.Kept.{one, coded-suc, coded-mono}
-use Rattle.readings.specs.Places.{filled, place0, place1}
-use Rattle.branches.specs.Largest.{mark, largest}
-use Rattle.readings.specs.Sums.{gain}
-use Rattle.readings.specs.Decode.{mets, froms, word, score, filledRows}
+use Rattle.readings.specs.Decode.{word, filledRows}
 use Rattle.readings.specs.Promise.{Decodes}
 use Rattle.readings.specs.Said.{mostReadings, decodeSaid}
+use Rattle.readings.specs.Sums.{soft}
 use Rattle.readings.proofs.Answers.{length-few}
-
--- ---- the steps
-
--- a place whose reading, where it has one, is among the first n
-filled-taken : (kept : Bool) (readings : List Float) (n i : ℕ) → i + one kept ≤ n → filled kept (take n readings) i ≡ filled kept readings i
-filled-taken false readings n i h = refl
-filled-taken true readings n i h =
-    elim (decLt n (length readings)) [
-      | yes more ↦
-          rw (
-            length-take-le n readings (omega arith),
-            lt-ltb i n (omega arith),
-            lt-ltb i (length readings) (omega arith),
-            getD-take n readings i nan (omega arith),
-          )
-      | no all ↦ ap (λ (l : List Float). filled true l i) (take-all n readings (omega arith))
-    ]
-
-module _ (code : ConvCode) (p : Keep) (good : Pattern p) (readings : List Float) (n : ℕ) where
-  -- a step reads no further than the coded length of the steps up to it
-  pub gain-taken : (t : ℕ) → codedLength p (suc t) ≤ n → gain code p (take n readings) t ≡ gain code p readings t
-  unfolding gain place0 place1
-  gain-taken t h =
-      rw (
-        filled-taken (keeps0 p t) readings n (codedLength p t) (omega (arith, coded-suc p good t)),
-        filled-taken (keeps1 p t) readings n (codedLength p t + one (keeps0 p t)) (omega (arith, coded-suc p good t)),
-      )
-
-  earlier : (t : ℕ) → codedLength p (suc t) ≤ n → codedLength p t ≤ n
-  earlier t h = omega (arith, coded-suc p good t)
-
-  -- a step from the same metrics is the same
-  cells-taken :
-      (t : ℕ) → codedLength p (suc t) ≤ n → mets code p (take n readings) t ≡ mets code p readings t →
-      stepFrom largest code (mets code p (take n readings) t) (gain code p (take n readings) t)
-      ≡ stepFrom largest code (mets code p readings t) (gain code p readings t)
-  cells-taken t h same = ap₂ (stepFrom largest code) same (gain-taken t h)
-
-  pub mets-taken : (t : ℕ) → codedLength p t ≤ n → mets code p (take n readings) t ≡ mets code p readings t
-  unfolding mets metsAfter
-  mets-taken zero h = refl
-  mets-taken (suc t) h = ap (map (λ (c : Cell Float). c .met)) (cells-taken t h (mets-taken t (earlier t h)))
-
-  froms-taken : (t : ℕ) → codedLength p (suc t) ≤ n → froms code p (take n readings) t ≡ froms code p readings t
-  unfolding froms survivors mets
-  froms-taken t h = ap (map (λ (c : Cell Float). c .from)) (cells-taken t h (mets-taken t (earlier t h)))
-
-  pub rows-taken : (t : ℕ) → codedLength p t ≤ n → filledRows code p (take n readings) t ≡ filledRows code p readings t
-  unfolding firstRows
-  rows-taken zero h = refl
-  rows-taken (suc t) h = ap₂ _++_ (rows-taken t (earlier t h)) (froms-taken t h)
-
-  module _ (info : ℕ) (enough : codedLength p (stepsOf code info) ≤ n) where
-    pub word-taken : word code p (take n readings) info ≡ word code p readings info
-    unfolding word
-    word-taken =
-        ap (take info)
-        (traced-same largest largest code (froms code p (take n readings)) (froms code p readings) (stepsOf code info) 0
-        (λ t h. froms-taken t (omega (arith, coded-mono p good (suc t) (stepsOf code info) h))))
-
-    pub score-taken : score code p (take n readings) info ≡ score code p readings info
-    unfolding score
-    score-taken = ap (λ (m : List Float). getD m 0 mark) (mets-taken (stepsOf code info) enough)
 
 -- ---- by the numbers of the code and the rate
 
@@ -117,7 +46,7 @@ module _ (code rate info : ℕ) (readings : List Float) (room scratch n : ℕ) (
         | no few ↦
             rw (
               take-take (codedLengthOf code rate info) n readings (within (omega arith)),
-              score-taken (codeOf code) (patternOf code rate) (rate-pattern code rate) readings n info (within (omega arith)),
+              score-taken soft (codeOf code) (patternOf code rate) (rate-pattern code rate) readings n info (within (omega arith)),
             )
       ]
 
@@ -143,7 +72,7 @@ module _ (code rate info : ℕ) (readings : List Float) (room scratch n : ℕ) (
       leaves (decodeSaid code rate info (take n readings) room scratch) (word (codeOf code) (patternOf code rate) (take n readings) info) old
       ≡ leaves (decodeSaid code rate info readings room scratch) (word (codeOf code) (patternOf code rate) readings info) old
   surplus-output old =
-      surplus-leaves _ _ old (λ h. word-taken (codeOf code) (patternOf code rate) (rate-pattern code rate) readings n info (within h))
+      surplus-leaves _ _ old (λ h. word-taken soft (codeOf code) (patternOf code rate) (rate-pattern code rate) readings n info (within h))
 
   pub surplus-scratch :
       (old : List ℕ) →
@@ -153,7 +82,7 @@ module _ (code rate info : ℕ) (readings : List Float) (room scratch n : ℕ) (
       (filledRows (codeOf code) (patternOf code rate) readings (stepsOf (codeOf code) info)) old
   surplus-scratch old =
       let steps = stepsOf (codeOf code) info in
-      surplus-leaves _ _ old (λ h. rows-taken (codeOf code) (patternOf code rate) (rate-pattern code rate) readings n steps (within h))
+      surplus-leaves _ _ old (λ h. rows-taken soft (codeOf code) (patternOf code rate) (rate-pattern code rate) readings n steps (within h))
 
 -- ---- as they come from bytes, to a list with room for those that may be used
 

@@ -1,36 +1,29 @@
--- The block decoder of readings: its word, its score, and what it leaves in scratch. Definitions only.
+-- The block decoder of readings: its word, its score, and what it leaves in scratch. Each is the definition of crate
+-- `correlation`, over any kind of decoder, in f32. Definitions only.
 use mathlib.Core.List.{List}
 use Prim.Native.Nat.{ℕ}
 use lib.Ieee.{Float}
-use lib.ListN.{getD, take}
-use Rattle.best_path.specs.Rows.{firstRows}
-use Rattle.best_path.specs.Run.{metsAfter, survivors, traced}
+use Rattle.correlation.specs.Decode as any
 use Rattle.trellis.specs.declared.ConvCode.{ConvCode}
-use Rattle.trellis.specs.Codeword.{stepsOf}
 use Rattle.trellis.specs.Keep.{Keep}
-use Rattle.branches.specs.Largest.{mark, largest}
-use Rattle.readings.specs.Sums.{gain, started}
+use Rattle.readings.specs.Sums.{soft}
 
 module _ (code : ConvCode) (p : Keep) (readings : List Float) where
   -- the metrics after t steps, and the survivors of step t
-  unfoldable pub mets : ℕ → List Float
-  unfolding metsAfter gain
-  mets t = metsAfter largest code (gain code p readings) (started code) t
+  abbrev pub mets : ℕ → List Float
+  mets t = any.mets soft code p readings t
 
-  unfoldable pub froms : ℕ → List ℕ
-  unfolding survivors gain
-  froms t = survivors largest code (gain code p readings) (started code) t
+  abbrev pub froms : ℕ → List ℕ
+  froms t = any.froms soft code p readings t
 
   -- traceback starts from state 0; the tail is dropped
-  unfoldable pub word : ℕ → List ℕ
-  unfolding traced froms
-  word info = take info (traced largest code froms (stepsOf code info) 0)
+  abbrev pub word : ℕ → List ℕ
+  word info = any.word soft code p readings info
 
   -- the winning score: state 0's last metric
-  unfoldable pub score : ℕ → Float
-  unfolding mets
-  score info = getD (mets (stepsOf code info)) 0 mark
+  abbrev pub score : ℕ → Float
+  score info = any.score soft code p readings info
 
   -- the survivor numbers of t steps, row by row
   abbrev pub filledRows : ℕ → List ℕ
-  filledRows t = firstRows froms t
+  filledRows t = any.filledRows soft code p readings t

@@ -1,7 +1,5 @@
--- Places: what each place of the trellis reads. Sums: correlations and metrics in f32. Decode: word, score and
--- survivors. Said: what the decoder answers, for every input. Promise: what the entries and their door promise. Inner:
--- what the inner functions ask and ensure.
-pub mod Places
+-- Sums: correlations and metrics in f32. Decode: word, score and survivors. Said: what the decoder answers, for every
+-- input. Promise: what the entries and their door promise. Inner: what the inner functions ask and ensure.
 pub mod Sums
 pub mod Decode
 pub mod Said

@@ -4,6 +4,7 @@ use Prim.Native.Nat.{ℕ, _*_, _^_}
 use lib.Dec.{ltb}
 use lib.Ieee.{Float}
 use lib.ListN.{take}
+use Rattle.correlation.specs.Decode as any
 use Rattle.encoder.specs.Encode.{codedLengthOf, checked}
 use Rattle.f32s.specs.Single.{finite}
 use Rattle.refusal.specs.Answer.{Said, accepted, refuseWhen}
@@ -27,7 +28,7 @@ examined used rest = refuseAtBad 6 finite used rest
 
 -- surplus readings are neither used nor examined
 unfoldable pub decodeSaid : (code rate info : ℕ) → List Float → (room scratch : ℕ) → Said Float
-unfolding firstBad score
+unfolding firstBad any.score
 decodeSaid code rate info readings room scratch =
     checked code rate info
     (refuseWhen (ltb room info) 4

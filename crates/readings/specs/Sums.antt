@@ -1,33 +1,34 @@
--- Correlations and metrics in f32, each operation rounded once. Definitions only.
-use mathlib.Core.Bool.{cond}
+-- Readings that are f32s: correlations and metrics in f32, each operation rounded once. What is defined over any
+-- arithmetic is in crate `correlation`. Definitions only.
 use mathlib.Core.List.{List}
 use Prim.Native.Nat.{ℕ}
-use lib.Dec.{eqb}
 use lib.Ieee.{Float, binary32, add, sub, neg}
-use Rattle.best_path.specs.Run.{startedAt}
 use Rattle.branches.specs.Largest.{largest}
+use Rattle.correlation.specs.Arithmetic.{Arithmetic, Kind}
+use Rattle.correlation.specs.Gain as any
 use Rattle.f32s.specs.Single.{zero32}
 use Rattle.trellis.specs.declared.ConvCode.{ConvCode}
 use Rattle.trellis.specs.Keep.{Keep}
-use Rattle.trellis.specs.State.{window, parityOf}
-use Rattle.readings.specs.Places.{valueOf, place0, place1}
+use Rattle.trellis.specs.Places as places
 
--- a+b, a-b, (-a)+b, (-a)-b for the coded pairs 00, 01, 10, 11
-unfoldable pub correlation : Float → Float → ℕ → ℕ → Float
-correlation a b c0 c1 =
-    cond (eqb c0 0) (cond (eqb c1 0) (add binary32 a b) (sub binary32 a b))
-    (cond (eqb c1 0) (add binary32 (neg a) b) (sub binary32 (neg a) b))
+abbrev pub floats : Arithmetic Float
+floats =
+    record {
+      zero = zero32;
+      plus = λ (a b : Float). add binary32 a b;
+      minus = λ (a b : Float). sub binary32 a b;
+      negative = λ (a : Float). neg a;
+    }
 
--- what the branch from the state s on the input i brings, where a step reads a and b
-unfoldable pub brings : ConvCode → Float → Float → ℕ → ℕ → Float
-unfolding correlation parityOf
-brings code a b s i = correlation a b (parityOf (code .g0) (window code s i)) (parityOf (code .g1) (window code s i))
+-- The larger sum is better, and state 0 starts at 0.0.
+abbrev pub soft : Kind Float Float
+soft = record { on = floats; op = largest; first = zero32 }
 
--- what the branches of step t bring
-unfoldable pub gain : ConvCode → Keep → List Float → ℕ → ℕ → ℕ → Float
-unfolding brings place0 place1
-gain code p readings t = brings code (valueOf (place0 p readings t)) (valueOf (place1 p readings t))
+-- deleted and missing places read 0.0
+abbrev pub valueOf : places.Place Float → Float
+valueOf place = places.valueOf zero32 place
 
--- State 0 starts at 0.0.
-abbrev pub started : ConvCode → List Float
-started code = startedAt largest code zero32
+-- What the branches of step t bring, whose places read a and b: a+b, a-b, (-a)+b, (-a)-b for the coded pairs 00, 01,
+-- 10, 11.
+abbrev pub gain : ConvCode → Keep → List Float → ℕ → ℕ → ℕ → Float
+gain code p readings t = any.gain floats code p readings t

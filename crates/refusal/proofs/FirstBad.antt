@@ -1,5 +1,5 @@
 -- The index of the first bad value of a list, found by looking at one after the other; it is the place of refusals 6 and 7.
--- Over any test. Assumes nothing.
+-- Over any test of any kind of value; what a read past the end would give, d, is not seen. Assumes nothing.
 use mathlib.Core.Bool.{Bool, true, false, cond, not}
 use mathlib.Core.List.{List, [], _∷_}
 use mathlib.Core.Path.{_≡_, refl, ap, sym, subst, _∙_}
@@ -7,27 +7,26 @@ use Prim.Native.Nat.{ℕ, zero, suc, _+_, _≤_, _<_}
 use native.Mathlib.Omega.{arith}
 use borrow.Author.Tests.{lt-ltb, le-ltb}
 use lib.Dec.{T, ltb}
-use lib.Ieee.{Float, nan}
 use lib.ListN.{length, getD, drop, drop-of-length-le}
 use Rattle.refusal.specs.Answer.{Said, accepted, refused}
 use Rattle.refusal.specs.First.{firstBad, refuseAtBad}
 
-next-is : (i : ℕ) (xs : List Float) → i < length xs → drop i xs ≡ getD xs i nan ∷ drop (suc i) xs
-next-is zero [] h = absurd (omega (arith, h))
-next-is (suc i) [] h = absurd (omega (arith, h))
-next-is zero (x ∷ xs) h = refl
-next-is (suc i) (x ∷ xs) h = next-is i xs (omega arith)
+next-is : {E : Type 0} (d : E) (i : ℕ) (xs : List E) → i < length xs → drop i xs ≡ getD xs i d ∷ drop (suc i) xs
+next-is d zero [] h = absurd (omega (arith, h))
+next-is d (suc i) [] h = absurd (omega (arith, h))
+next-is d zero (x ∷ xs) h = refl
+next-is d (suc i) (x ∷ xs) h = next-is d i xs (omega arith)
 
-module _ (is-good : Float → Bool) where
+module _ {E : Type 0} (is-good : E → Bool) where
   -- The invariant of a search: the first i values are good, so the first bad one is the first from there on.
-  pub record Sought (xs : List Float) (i : ℕ) : Type 0 where
+  pub record Sought (xs : List E) (i : ℕ) : Type 0 where
     pub reached : i ≤ length xs
     pub ahead : firstBad is-good xs ≡ i + firstBad is-good (drop i xs)
 
-  pub sought-starts : {xs : List Float} → Sought xs 0
+  pub sought-starts : {xs : List E} → Sought xs 0
   sought-starts = record { reached = omega arith; ahead = omega arith }
 
-  module _ {xs : List Float} {i : ℕ} (sought : Sought xs i) where
+  module _ {xs : List E} {i : ℕ} (sought : Sought xs i) where
     -- the search is through
     pub none-found : length xs ≤ i → length xs ≡ firstBad is-good xs
     unfolding firstBad
@@ -36,20 +35,20 @@ module _ (is-good : Float → Bool) where
         omega (arith, nothing, sought .reached, sought .ahead)
 
     -- the value at i is looked at
-    module _ (h : i < length xs) where
+    module _ (d : E) (h : i < length xs) where
       look :
-          (good : Bool) → good ≡ is-good (getD xs i nan) →
+          (good : Bool) → good ≡ is-good (getD xs i d) →
           firstBad is-good (drop i xs) ≡ cond good (suc (firstBad is-good (drop (suc i) xs))) 0
       unfolding firstBad
       look good e =
-          ap (firstBad is-good) (next-is i xs h)
+          ap (firstBad is-good) (next-is d i xs h)
           ∙ ap (λ (b : Bool). cond b (suc (firstBad is-good (drop (suc i) xs))) 0) (sym e)
 
-      pub found-here : {good : Bool} → good ≡ is-good (getD xs i nan) → not good ≡ true → i ≡ firstBad is-good xs
+      pub found-here : {good : Bool} → good ≡ is-good (getD xs i d) → not good ≡ true → i ≡ firstBad is-good xs
       found-here {good = true} e bad = absurd (subst T (sym bad) tt)
       found-here {good = false} e bad = omega (arith, look false e, sought .ahead)
 
-      pub sought-goes-on : {good : Bool} → good ≡ is-good (getD xs i nan) → not good ≡ false → Sought xs (i + 1)
+      pub sought-goes-on : {good : Bool} → good ≡ is-good (getD xs i d) → not good ≡ false → Sought xs (i + 1)
       sought-goes-on {good = true} e fine =
           let next : suc i ≡ i + 1 = omega arith in
           let one : firstBad is-good xs ≡ suc i + firstBad is-good (drop (suc i) xs) = omega (arith, look true e, sought .ahead) in
@@ -57,7 +56,7 @@ module _ (is-good : Float → Bool) where
       sought-goes-on {good = false} e fine = absurd (subst T fine tt)
 
   -- the refusal, by an index that was found
-  module _ {A : Type 0} (number : ℕ) (xs : List Float) (rest : Said A) (bad : ℕ) (found : bad ≡ firstBad is-good xs) where
+  module _ {A : Type 0} (number : ℕ) (xs : List E) (rest : Said A) (bad : ℕ) (found : bad ≡ firstBad is-good xs) where
     pub some-bad : bad < length xs → refuseAtBad number is-good xs rest ≡ refused number bad
     some-bad h = rw (← found, lt-ltb bad (length xs) h)
 
@@ -66,14 +65,14 @@ module _ (is-good : Float → Bool) where
 
   -- where all are good, there is none
   pub all-good :
-      (xs : List Float) → ((i : ℕ) → i < length xs → is-good (getD xs i nan) ≡ true) → firstBad is-good xs ≡ length xs
+      (d : E) (xs : List E) → ((i : ℕ) → i < length xs → is-good (getD xs i d) ≡ true) → firstBad is-good xs ≡ length xs
   unfolding firstBad
-  all-good [] each = refl
-  all-good (x ∷ xs) each = rw (each 0 (omega arith)) (ap suc (all-good xs (λ i h. each (suc i) (omega arith))))
+  all-good d [] each = refl
+  all-good d (x ∷ xs) each = rw (each 0 (omega arith)) (ap suc (all-good d xs (λ i h. each (suc i) (omega arith))))
 
   -- what is accepted passed the test
   pub accepted-past-bad :
-      {A : Type 0} (number : ℕ) (xs : List Float) (rest : Said A) (a : A) → refuseAtBad number is-good xs rest ≡ accepted a →
+      {A : Type 0} (number : ℕ) (xs : List E) (rest : Said A) (a : A) → refuseAtBad number is-good xs rest ≡ accepted a →
       rest ≡ accepted a
   accepted-past-bad {A} number xs rest a = go (ltb (firstBad is-good xs) (length xs))
     where

@@ -44,7 +44,7 @@ module _ (pm : List Float) (re im : Float) where
     turned =
         let bits = crossed-bits k5 8 c0 c1 crossed n h in
         wing-best k5 8 c0 c1 crossed n h smallest (λ (p q : ℕ). cost re im (phasorOf p q)) (costs k5 re im) by-pair (λ (s : ℕ). getD pm s nan) x y
-        (of-x ∙ pair-cost re im r priced (getD c0 n 0) (getD c1 n 0) (bits .0) (bits .1)) (of-y ∙ opposite-cost re im r priced (getD c0 n 0) (getD c1 n 0) (bits .0) (bits .1)) s of-s w winged
+        (of-x ∙ pair-cost re im r priced (getD c0 n 0) (getD c1 n 0) (bits .0) (bits .1)) (of-y ∙ opposite-cost re im r priced (getD c0 n 0) (getD c1 n 0) (bits .0) (bits .1)) s of-s winged
 
   -- ---- all turns
 

@@ -1,7 +1,7 @@
 -- `readings::decode`: all steps, then the way back over what they leave. Assumes nothing.
 use native.Mathlib.Omega.{arith}
 use borrow.Author.Needs.{needs}
-use Rattle.readings.proofs.Rows.{some-states, way-walkable, way-finds}
+use Rattle.correlation.proofs.Rows.{some-states, way-walkable, way-finds}
 use Rattle.readings.proofs.decode.Statement.{statement}
 use Rattle.readings.proofs.decode.Tie as tie
 

@@ -2,6 +2,7 @@
 use Prim.Native.Nat.{_-_}
 use native.Mathlib.Omega.{arith}
 use borrow.Author.Needs.{needs}
+use lib.Ieee.{nan}
 use Rattle.f32s.specs.Single.{finite}
 use Rattle.refusal.proofs.FirstBad.{Sought, sought-starts, none-found, found-here, sought-goes-on}
 use Rattle.refusal.proofs.first_bad.Statement.{statement}
@@ -19,12 +20,12 @@ loop-holds c = sought-starts finite
 returns : tie.Need-returns Inv-loop μ-loop
 returns c =
     let head : tie.At-loop Inv-loop μ-loop = search in
-    found-here finite (head .loop .inv) (omega arith) (c .before .is-finite .ensures) (c .if1 .taken)
+    found-here finite (head .loop .inv) nan (omega arith) (c .before .is-finite .ensures) (c .if1 .taken)
 
 loop-again : tie.Need-loop-again Inv-loop μ-loop
 loop-again c =
     let head : tie.At-loop Inv-loop μ-loop = search in
-    sought-goes-on finite (head .loop .inv) (omega arith) (c .before .is-finite .ensures) (c .if1 .left)
+    sought-goes-on finite (head .loop .inv) nan (omega arith) (c .before .is-finite .ensures) (c .if1 .left)
 
 returns-2 : tie.Need-returns-2 Inv-loop μ-loop
 returns-2 c = none-found finite (c .before .loop .inv) (omega arith)

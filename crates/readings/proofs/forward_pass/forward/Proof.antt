@@ -2,15 +2,17 @@
 use Prim.Native.Nat.{_-_}
 use native.Mathlib.Omega.{arith}
 use borrow.Author.Needs.{needs}
+use lib.Ieee.{nan}
 use lib.ListN.{length-take, length-drop}
-use Rattle.readings.proofs.Steps.{Forwarded, forwarded-starts, forwarded-goes-on, forwarded-ends}
-use Rattle.readings.proofs.Steps.{rows-sized, column-below, column-within, reads-few, middle-few, row-within, row-few}
+use Rattle.correlation.proofs.Steps.{Forwarded, forwarded-starts, forwarded-goes-on, forwarded-ends}
+use Rattle.correlation.proofs.Steps.{rows-sized, column-below, column-within, reads-few, middle-few, row-within, row-few}
+use Rattle.readings.specs.Sums.{soft}
 use Rattle.readings.proofs.forward_pass.forward.Statement.{statement}
 use Rattle.readings.proofs.forward_pass.forward.Tie as tie
 
 abbrev Inv-loop : tie.InvT-loop
 Inv-loop code half readings steps rows₀ c0 c1 period row0 row1 states pm₀ next₀ column₀ at₀ to₀ t₀ rows pm next column at to t =
-    Forwarded code half (record { period = period; row0 = row0; row1 = row1 }) readings steps rows₀ c0 c1 rows pm column at to t
+    Forwarded soft nan code half (record { period = period; row0 = row0; row1 = row1 }) readings steps rows₀ c0 c1 rows pm column at to t
 
 abbrev μ-loop : tie.MeasureT-loop
 μ-loop code half readings steps rows₀ c0 c1 period row0 row1 states pm₀ next₀ column₀ at₀ to₀ t₀ rows pm next column at to t =

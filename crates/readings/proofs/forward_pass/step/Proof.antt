@@ -3,12 +3,15 @@ use Prim.Native.Nat.{_-_}
 use native.Mathlib.Omega.{arith}
 use borrow.Author.Needs.{needs}
 use lib.ListN.{length-set}
-use Rattle.readings.proofs.Turn.{Paired, paired-starts, paired-goes-on, paired-ends}
+use Rattle.correlation.proofs.Turn.{Paired, paired-starts, paired-goes-on, paired-ends}
+use Rattle.readings.specs.Inner.{held}
+use Rattle.readings.specs.Sums.{soft}
+use Rattle.readings.proofs.Lawful.{floats-lawful}
 use Rattle.readings.proofs.forward_pass.step.Statement.{statement}
 use Rattle.readings.proofs.forward_pass.step.Tie as tie
 
 abbrev Inv-loop : tie.InvT-loop
-Inv-loop half c0 c1 a b pm next₀ row₀ s₀ n₀ next row s n = Paired half c0 c1 a b pm next₀ row₀ next row s n
+Inv-loop half c0 c1 a b pm next₀ row₀ s₀ n₀ next row s n = Paired soft half c0 c1 a b (held pm) next₀ row₀ next row s n
 
 abbrev μ-loop : tie.MeasureT-loop
 μ-loop half c0 c1 a b pm next₀ row₀ s₀ n₀ next row s n = half - n
@@ -26,7 +29,7 @@ loop-again c =
     let first : tie.After-signed Inv-loop μ-loop = search in
     let turn : tie.In-loop Inv-loop μ-loop = search in
     let head : tie.At-loop Inv-loop μ-loop = search in
-    paired-goes-on (head .loop .inv) (turn .loop-test .taken) (first .signed .ensures) (second .signed2 .ensures)
+    paired-goes-on (head .loop .inv) floats-lawful (turn .loop-test .taken) (first .signed .ensures) (second .signed2 .ensures)
     (pair .butterfly .ensures) (search) (search)
 
 same-length : tie.Need-same-length Inv-loop μ-loop

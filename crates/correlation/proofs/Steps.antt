@@ -1,5 +1,6 @@
 -- Steps one after the other: the metrics that the code holds agree with those after t steps, the readings are read in order,
--- and the rows of survivors grow. Assumes nothing.
+-- and the rows of survivors grow. Over any kind of decoder; d is what the code's read of a metric past the end would give.
+-- Assumes nothing.
 use mathlib.Core.Bool.{Bool, true, false}
 use mathlib.Core.List.{List, _++_}
 use mathlib.Core.Path.{_≡_, refl, sym, ap, ap₂, _∙_}
@@ -8,7 +9,6 @@ use native.Mathlib.Nat.{le-trans, mod-lt, mod-eq-of-lt, suc-mul, mul-le-mul-righ
 use native.Mathlib.Numerals.{add-one}
 use native.Mathlib.Omega.{arith}
 use lib.Dec.{eqb}
-use lib.Ieee.{Float, nan}
 use lib.ListN.{length, getD, set, take, drop, replicate, getD-replicate, length-append, length-drop}
 use lib.Pow.{pow-pos}
 use lib.Seq.{getD-set-other}
@@ -16,56 +16,63 @@ use Rattle.best_path.specs.Run.{metsAfter}
 use Rattle.best_path.proofs.Held.{held-froms, held-next}
 use Rattle.best_path.proofs.Rows.{StateRows, survivor-rows, length-rows, row-fits, row-next, rows-start, rows-put}
 use Rattle.best_path.proofs.Start.{others-marked}
-use Rattle.f32s.specs.Single.{zero32}
 use Rattle.trellis.specs.declared.ConvCode.{ConvCode}
 use Rattle.trellis.specs.declared.KeepPattern.{KeepPattern}
 use Rattle.trellis.specs.Choice.{keepOf}
 use Rattle.trellis.specs.Keep.{Keep, keeps0, keeps1, codedLength}
+use Rattle.trellis.specs.Places.{valueOf, filled, place0, place1}
 use Rattle.trellis.specs.Post.{Rows, Halved, Crossed}
 use Rattle.trellis.proofs.Columns.{rows-pattern, keeps0-column, keeps1-column, column-next}
 use Rattle.trellis.proofs.Kept.{one, coded-suc, coded-le}
 use Rattle.trellis.proofs.States.{states-two-halves}
-use Rattle.readings.specs.Places.{valueOf, filled, place0, place1}
-use Rattle.branches.specs.Largest.{mark, largest}
-use Rattle.readings.specs.Sums.{brings, gain, started}
-use Rattle.readings.specs.Decode.{mets, froms, filledRows}
-use Rattle.readings.specs.Inner.{newMets, newFroms, Selects, Runnable, Runs}
+use Rattle.correlation.specs.Arithmetic.{Kind}
+use Rattle.correlation.specs.Gain.{brings, read0, read1, gain, newMets, newFroms}
+use Rattle.correlation.specs.Decode.{started, mets, froms, filledRows}
+use Rattle.correlation.specs.Inner.{Selects, Runnable, Runs}
 
--- the metrics as the code holds them, in an array that may be longer
-abbrev pub Agrees : ConvCode → Keep → List Float → List Float → ℕ → Type 0
-Agrees code p readings pm t = (s : ℕ) → s < 2 ^ code .width → getD pm s nan ≡ getD (mets code p readings t) s mark
-
-module _ (code : ConvCode) (some : 0 < code .width) (p : Keep) (readings : List Float) where
+module _ {A M : Type 0} (kind : Kind A M) (d : M) (code : ConvCode) (some : 0 < code .width) (p : Keep) (readings : List A) where
   abbrev states : ℕ
   states = 2 ^ code .width
 
-  agrees-start : states ≤ 64 → Agrees code p readings (set (replicate 64 mark) 0 zero32) 0
+  -- the metrics as the code holds them, in an array that may be longer
+  abbrev Agrees : List M → ℕ → Type 0
+  Agrees pm t = (s : ℕ) → s < states → getD pm s d ≡ getD (mets kind code p readings t) s (kind .op .mark)
+
+  agrees-start : states ≤ 64 → Agrees (set (replicate 64 (kind .op .mark)) 0 (kind .first)) 0
   unfolding mets metsAfter
   agrees-start few zero h = refl
   agrees-start few (suc s) h =
-      getD-set-other (replicate 64 mark) 0 (suc s) zero32 nan (λ e. omega arith)
-      ∙ getD-replicate 64 (suc s) mark nan (omega (arith, h, few))
-      ∙ sym (others-marked largest code zero32 s)
+      getD-set-other (replicate 64 (kind .op .mark)) 0 (suc s) (kind .first) d (λ e. omega arith)
+      ∙ getD-replicate 64 (suc s) (kind .op .mark) d (omega (arith, h, few))
+      ∙ sym (others-marked (kind .op) code (kind .first) s)
 
   module _
-      (pm : List Float) (a b : Float) (t : ℕ) (agrees : Agrees code p readings pm t)
-      (of-a : a ≡ valueOf (place0 p readings t)) (of-b : b ≡ valueOf (place1 p readings t)) where
-    same-gain : brings code a b ≡ gain code p readings t
+      (pm : List M) (a b : A) (t : ℕ) (agrees : Agrees pm t) (of-a : a ≡ read0 (kind .on) p readings t)
+      (of-b : b ≡ read1 (kind .on) p readings t) where
+    same-gain : brings (kind .on) code a b ≡ gain (kind .on) code p readings t
     unfolding gain
-    same-gain = ap₂ (brings code) of-a of-b
+    same-gain = ap₂ (brings (kind .on) code) of-a of-b
 
-    new-froms : newFroms code pm a b ≡ froms code p readings t
+    new-froms : newFroms kind code (λ (s : ℕ). getD pm s d) a b ≡ froms kind code p readings t
     unfolding froms mets
-    new-froms = held-froms largest code (gain code p readings) (started code) nan pm t agrees (brings code a b) same-gain
+    new-froms =
+        held-froms (kind .op) code (gain (kind .on) code p readings) (started kind code) d pm t agrees
+        (brings (kind .on) code a b) same-gain
 
-    agrees-next : (next rest : List Float) → next ≡ newMets code pm a b ++ rest → Agrees code p readings next (t + 1)
+    agrees-next :
+        (next rest : List M) → next ≡ newMets kind code (λ (s : ℕ). getD pm s d) a b ++ rest → Agrees next (t + 1)
     unfolding mets
-    agrees-next = held-next largest code (gain code p readings) (started code) nan pm t agrees (brings code a b) same-gain some
+    agrees-next =
+        held-next (kind .op) code (gain (kind .on) code p readings) (started kind code) d pm t agrees
+        (brings (kind .on) code a b) same-gain some
 
-  -- a row of survivors for each step, all of them states
-  pub rows-filled : (width : ℕ) → width ≡ states → StateRows width (froms code p readings)
-  unfolding froms
-  rows-filled width same = rw same (survivor-rows largest code some (gain code p readings) (started code))
+-- a row of survivors for each step, all of them states
+pub rows-filled :
+    {A M : Type 0} (kind : Kind A M) (code : ConvCode) → 0 < code .width → (p : Keep) (readings : List A) (width : ℕ) →
+    width ≡ 2 ^ code .width → StateRows width (froms kind code p readings)
+unfolding froms
+rows-filled kind code some p readings width same =
+    rw same (survivor-rows (kind .op) code some (gain (kind .on) code p readings) (started kind code))
 
 one-at-most : (b : Bool) → one b ≤ 1
 one-at-most true = omega arith
@@ -76,30 +83,31 @@ one-at-most false = omega arith
 -- The invariant: after t steps column, at and to are t's, the metrics agree with the definition's, and the survivors of t steps
 -- stand over the front of the rows.
 pub record Forwarded
-    (code : ConvCode) (half : ℕ) (keep : KeepPattern) (readings : List Float) (steps : ℕ) (old c0 c1 : List ℕ)
-    (rows : List ℕ) (pm : List Float) (column at to t : ℕ) : Type 0 where
+    {A M : Type 0} (kind : Kind A M) (d : M) (code : ConvCode) (half : ℕ) (keep : KeepPattern) (readings : List A) (steps : ℕ)
+    (old c0 c1 : List ℕ) (rows : List ℕ) (pm : List M) (column at to t : ℕ) : Type 0 where
   pub ready : Runnable code half keep steps old
   pub crossed : Crossed code half c0 c1
   pub turns : t ≤ steps
   pub counted : column ≡ t % keep .period
   pub behind : at ≡ codedLength (keepOf keep) t
   pub place : to ≡ t * (2 * half)
-  pub agrees : Agrees code (keepOf keep) readings pm t
-  pub survivors : rows ≡ filledRows code (keepOf keep) readings t ++ drop (t * (2 * half)) old
+  pub agrees :
+      (s : ℕ) → s < 2 ^ code .width → getD pm s d ≡ getD (mets kind code (keepOf keep) readings t) s (kind .op .mark)
+  pub survivors : rows ≡ filledRows kind code (keepOf keep) readings t ++ drop (t * (2 * half)) old
 
 -- what the code's shape says of its states
 module _ {code : ConvCode} {half : ℕ} (shape : Halved code half) where
   two-halves : 2 * half ≡ 2 ^ code .width
   two-halves = omega (arith, states-two-halves code (shape .held .some), shape .halved)
 
-  pub filled-by : (p : Keep) (readings : List Float) → StateRows (2 * half) (froms code p readings)
-  filled-by p readings = rows-filled code (shape .held .some) p readings (2 * half) two-halves
+  pub filled-by : {A M : Type 0} (kind : Kind A M) (p : Keep) (readings : List A) → StateRows (2 * half) (froms kind code p readings)
+  filled-by kind p readings = rows-filled kind code (shape .held .some) p readings (2 * half) two-halves
 
 pub forwarded-starts :
-    {code : ConvCode} {half : ℕ} {keep : KeepPattern} {readings : List Float} {steps : ℕ} {old c0 c1 : List ℕ} →
-    Runnable code half keep steps old → Crossed code half c0 c1 →
-    Forwarded code half keep readings steps old c0 c1 old (set (replicate 64 mark) 0 zero32) 0 0 0 0
-forwarded-starts {code} {half} {keep} {readings} {steps} {old} ready crossed =
+    {A M : Type 0} {kind : Kind A M} {d : M} {code : ConvCode} {half : ℕ} {keep : KeepPattern} {readings : List A} {steps : ℕ}
+    {old c0 c1 : List ℕ} → Runnable code half keep steps old → Crossed code half c0 c1 →
+    Forwarded kind d code half keep readings steps old c0 c1 old (set (replicate 64 (kind .op .mark)) 0 (kind .first)) 0 0 0 0
+forwarded-starts {kind} {d} {code} {half} {keep} {readings} {steps} {old} ready crossed =
     let shape = ready .shape in
     let p = keepOf keep in
     record {
@@ -109,13 +117,14 @@ forwarded-starts {code} {half} {keep} {readings} {steps} {old} ready crossed =
       counted = sym (mod-eq-of-lt (ready .pattern .some));
       behind = omega (arith, coded-le p (rows-pattern keep (ready .pattern)) 0);
       place = omega arith;
-      agrees = agrees-start code (shape .held .some) p readings (omega (arith, two-halves shape, shape .few));
-      survivors = rows-start (filled-by shape p readings) old;
+      agrees = agrees-start kind d code (shape .held .some) p readings (omega (arith, two-halves shape, shape .few));
+      survivors = rows-start (filled-by shape kind p readings) old;
     }
 
 module _
-    {code : ConvCode} {half : ℕ} {keep : KeepPattern} {readings : List Float} {steps : ℕ} {old c0 c1 : List ℕ} {rows : List ℕ}
-    {pm : List Float} {column at to t : ℕ} (now : Forwarded code half keep readings steps old c0 c1 rows pm column at to t) where
+    {A M : Type 0} {kind : Kind A M} {d : M} {code : ConvCode} {half : ℕ} {keep : KeepPattern} {readings : List A} {steps : ℕ}
+    {old c0 c1 : List ℕ} {rows : List ℕ} {pm : List M} {column at to t : ℕ}
+    (now : Forwarded kind d code half keep readings steps old c0 c1 rows pm column at to t) where
   abbrev p : Keep
   p = keepOf keep
 
@@ -131,13 +140,13 @@ module _
   -- the rows are as long as they were
   pub rows-sized : length rows ≡ length old
   rows-sized =
-      let front = length-rows (filled-by shape p readings) t in
+      let front = length-rows (filled-by shape kind p readings) t in
       let within = mul-le-mul-right (2 * half) (now .turns) in
       ap length (now .survivors)
       ∙ simp (length-append, length-drop) (omega (arith, front, within, now .ready .room))
 
   pub forwarded-ends :
-      steps ≤ t → Runs code p (2 * half) steps readings (getD pm 0 nan) (record { given = old; left = rows })
+      steps ≤ t → Runs kind code p (2 * half) steps readings (getD pm 0 d) (record { given = old; left = rows })
   forwarded-ends past =
       let end : t ≡ steps = omega (arith, now .turns) in
       record { last = rw end at (now .agrees 0 (pow-pos (code .width))); survivors = rw end at (now .survivors) }
@@ -174,24 +183,26 @@ module _
         let turns = mul-le-mul-right (2 * half) (le-trans h (now .ready .few)) in
         omega (arith, now .place, suc-mul t (2 * half), turns, shape .few)
 
+    -- what a place of it reads
+    abbrev reads : Bool → ℕ → A
+    reads kept n = valueOf (kind .on .zero) (filled kept readings n)
+
     -- its first place is read
-    module _
-        {a : Float} {middle : ℕ} (of-a : a ≡ valueOf (filled first readings at)) (of-middle : middle ≡ at + one first) where
-      reads-first : a ≡ valueOf (place0 p readings t)
+    module _ {a : A} {middle : ℕ} (of-a : a ≡ reads first at) (of-middle : middle ≡ at + one first) where
+      reads-first : a ≡ read0 (kind .on) p readings t
       unfolding place0
-      reads-first = of-a ∙ ap₂ (λ (k : Bool) (n : ℕ). valueOf (filled k readings n)) first-kept (now .behind)
+      reads-first = of-a ∙ ap₂ reads first-kept (now .behind)
 
       pub middle-few : middle ≤ 131072
       middle-few = omega (arith, of-middle, reads-few, one-at-most first)
 
       -- and its second
-      module _ {b : Float} {end : ℕ} (of-b : b ≡ valueOf (filled second readings middle)) (of-end : end ≡ middle + one second) where
-        reads-second : b ≡ valueOf (place1 p readings t)
+      module _ {b : A} {end : ℕ} (of-b : b ≡ reads second middle) (of-end : end ≡ middle + one second) where
+        reads-second : b ≡ read1 (kind .on) p readings t
         unfolding place1
         reads-second =
             of-b
-            ∙ ap₂ (λ (k : Bool) (n : ℕ). valueOf (filled k readings n)) second-kept
-            (of-middle ∙ ap₂ (λ (n : ℕ) (k : Bool). n + one k) (now .behind) first-kept)
+            ∙ ap₂ reads second-kept (of-middle ∙ ap₂ (λ (n : ℕ) (k : Bool). n + one k) (now .behind) first-kept)
 
         both-read : end ≡ codedLength p (t + 1)
         both-read =
@@ -207,16 +218,16 @@ module _
             ∙ ap (codedLength p) (sym (add-one t))
 
         pub forwarded-goes-on :
-            {next next' : List Float} {part : List ℕ} {column' to' : ℕ} →
-            Selects code pm a b (record { given = next; left = next' })
+            {next next' : List M} {part : List ℕ} {column' to' : ℕ} →
+            Selects kind code (λ (s : ℕ). getD pm s d) a b (record { given = next; left = next' })
             (record { given = take (length rows - to) (drop to rows); left = part }) →
             to' ≡ to + 2 * half → column' ≡ (column + 1) % keep .period →
-            Forwarded code half keep readings steps old c0 c1
+            Forwarded kind d code half keep readings steps old c0 c1
             (take to rows ++ (part ++ drop (length rows - to) (drop to rows))) next' column' end to' (t + 1)
         forwarded-goes-on {next} {next'} {part} {column'} selects place' counted' =
             let rest = take (length rows - to) (drop to rows) in
-            let froms-row = new-froms code some p readings pm a b t (now .agrees) reads-first reads-second in
-            let row : part ≡ froms code p readings t ++ drop (2 * half) rest =
+            let froms-row = new-froms kind d code some p readings pm a b t (now .agrees) reads-first reads-second in
+            let row : part ≡ froms kind code p readings t ++ drop (2 * half) rest =
             selects .froms ∙ ap₂ (λ (l : List ℕ) (n : ℕ). l ++ drop n rest) froms-row (sym (two-halves shape)) in
             record {
               ready = now .ready;
@@ -226,6 +237,6 @@ module _
               behind = both-read;
               place = place' ∙ row-next to t (2 * half) (now .place);
               agrees =
-                  agrees-next code some p readings pm a b t (now .agrees) reads-first reads-second next' _ (selects .mets);
-              survivors = rows-put (filled-by shape p readings) old rows part to t (now .survivors) (now .place) row;
+                  agrees-next kind d code some p readings pm a b t (now .agrees) reads-first reads-second next' _ (selects .mets);
+              survivors = rows-put (filled-by shape kind p readings) old rows part to t (now .survivors) (now .place) row;
             }

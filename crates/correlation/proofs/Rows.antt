@@ -4,7 +4,6 @@ use mathlib.Core.List.{List, _++_}
 use mathlib.Core.Path.{_≡_, refl, ap, _∙_}
 use Prim.Native.Nat.{ℕ, _-_, _*_, _<_}
 use native.Mathlib.Omega.{arith}
-use lib.Ieee.{Float}
 use lib.ListN.{length, take, drop}
 use lib.Pow.{pow-pos}
 use Rattle.best_path.specs.Path.{wholes}
@@ -17,10 +16,10 @@ use Rattle.trellis.specs.Choice.{keepOf}
 use Rattle.trellis.specs.Codeword.{stepsOf}
 use Rattle.trellis.specs.Keep.{Keep}
 use Rattle.trellis.specs.Post.{Halved}
-use Rattle.branches.specs.Largest.{largest}
-use Rattle.readings.specs.Decode.{froms, word, score}
-use Rattle.readings.specs.Inner.{Runs, Decodable, Finds}
-use Rattle.readings.proofs.Steps.{filled-by}
+use Rattle.correlation.specs.Arithmetic.{Kind}
+use Rattle.correlation.specs.Decode.{froms, word, score}
+use Rattle.correlation.specs.Inner.{Runs, Decodable, Finds}
+use Rattle.correlation.proofs.Steps.{filled-by}
 
 -- there is a state 0, and a state 1
 pub some-states : {code : ConvCode} {half : ℕ} → Halved code half → 1 < 2 * half
@@ -28,9 +27,9 @@ some-states {code} shape = omega (arith, pow-pos (code .width - 1), shape .halve
 
 -- what a decoding is given, and what its steps leave
 module _
-    {code : ConvCode} {half : ℕ} {keep : KeepPattern} {info : ℕ} {out scratch : List ℕ}
-    (ready : Decodable code half keep info out scratch) {readings : List Float} {r : Float} {left : List ℕ}
-    (ran : Runs code (keepOf keep) (2 * half) (stepsOf code info) readings r (record { given = scratch; left = left })) where
+    {A M : Type 0} {kind : Kind A M} {code : ConvCode} {half : ℕ} {keep : KeepPattern} {info : ℕ} {out scratch : List ℕ}
+    (ready : Decodable code half keep info out scratch) {readings : List A} {r : M} {left : List ℕ}
+    (ran : Runs kind code (keepOf keep) (2 * half) (stepsOf code info) readings r (record { given = scratch; left = left })) where
   abbrev p : Keep
   p = keepOf keep
 
@@ -40,8 +39,8 @@ module _
   abbrev shape : Halved code half
   shape = ready .shape
 
-  abbrev rows : StateRows (2 * half) (froms code p readings)
-  rows = filled-by shape p readings
+  abbrev rows : StateRows (2 * half) (froms kind code p readings)
+  rows = filled-by shape kind p readings
 
   pub way-walkable : {last : ℕ} → last < 2 * half → Traceable code half left steps last info (length out)
   way-walkable {last} state =
@@ -52,20 +51,20 @@ module _
   spelled :
       (s : ℕ) → 0 ≡ s →
       take info (traced wholes code (rowOf (2 * half) left) steps 0)
-      ≡ take info (traced largest code (froms code p readings) steps s)
+      ≡ take info (traced (kind .op) code (froms kind code p readings) steps s)
   spelled s same =
       ap (take info)
-      (left-way-back rows code half steps left _ refl (shape .halved) (shape .few) (ran .survivors) largest 0
-      ∙ ap (traced largest code (froms code p readings) steps) same)
+      (left-way-back rows code half steps left _ refl (shape .halved) (shape .few) (ran .survivors) (kind .op) 0
+      ∙ ap (traced (kind .op) code (froms kind code p readings) steps) same)
 
-  word-spelled : take info (traced wholes code (rowOf (2 * half) left) steps 0) ≡ word code p readings info
+  word-spelled : take info (traced wholes code (rowOf (2 * half) left) steps 0) ≡ word kind code p readings info
   unfolding word
   word-spelled = spelled _ (omega arith)
 
   -- so where the way back from state 0 is written to the output, word, score and survivors are found
   pub way-finds :
       {new : List ℕ} → new ≡ take info (traced wholes code (rowOf (2 * half) left) steps 0) ++ drop info out →
-      Finds code p (2 * half) info readings r (record { given = out; left = new }) (record { given = scratch; left = left })
+      Finds kind code p (2 * half) info readings r (record { given = out; left = new }) (record { given = scratch; left = left })
   unfolding score
   way-finds e =
       record {

@@ -1,0 +1,65 @@
+-- What the inner functions of a decoder of readings ask and ensure, for any kind of decoder. Definitions only.
+use mathlib.Core.List.{List, _++_}
+use mathlib.Core.Path.{_≡_}
+use Prim.Native.Nat.{ℕ, _*_, _^_, _≤_}
+use lib.ListN.{length, getD, drop}
+use Rattle.refusal.specs.Lent.{Lent}
+use Rattle.refusal.specs.Limits.{most}
+use Rattle.trellis.specs.declared.ConvCode.{ConvCode}
+use Rattle.trellis.specs.declared.KeepPattern.{KeepPattern}
+use Rattle.trellis.specs.Codeword.{stepsOf}
+use Rattle.trellis.specs.Keep.{Keep}
+use Rattle.trellis.specs.Post.{Rows, Halved, Crossed}
+use Rattle.correlation.specs.Arithmetic.{Kind}
+use Rattle.correlation.specs.Gain.{newMets, newFroms}
+use Rattle.correlation.specs.Decode.{mets, word, score, filledRows}
+
+-- ---- one step
+
+-- `step`: the coded bits that the even states send, and room for the survivors
+pub record Steppable (code : ConvCode) (half : ℕ) (c0 c1 row : List ℕ) : Type 0 where
+  pub crossed : Crossed code half c0 c1
+  pub room : 2 * half ≤ length row
+
+-- `step`: from the metrics `old` the new ones stand over the front of `next`, the survivors over that of `row`
+pub record Selects
+    {A M : Type 0} (kind : Kind A M) (code : ConvCode) (old : ℕ → M) (a b : A) (next : Lent M) (row : Lent ℕ)
+    : Type 0 where
+  pub mets : next .left ≡ newMets kind code old a b ++ drop (2 ^ code .width) (next .given)
+  pub froms : row .left ≡ newFroms kind code old a b ++ drop (2 ^ code .width) (row .given)
+
+-- ---- all steps
+
+-- `forward`: a code and a keep pattern as the code holds them, and room for the survivors of the steps
+pub record Runnable (code : ConvCode) (half : ℕ) (keep : KeepPattern) (steps : ℕ) (rows : List ℕ) : Type 0 where
+  pub shape : Halved code half
+  pub pattern : Rows keep
+  pub few : steps ≤ 65536
+  pub room : steps * (2 * half) ≤ length rows
+
+-- `forward`: state 0's last metric r, and the survivors of `states` states over the front of `rows`
+pub record Runs
+    {A M : Type 0} (kind : Kind A M) (code : ConvCode) (p : Keep) (states steps : ℕ) (readings : List A) (r : M)
+    (rows : Lent ℕ) : Type 0 where
+  pub last : r ≡ getD (mets kind code p readings steps) 0 (kind .op .mark)
+  pub survivors : rows .left ≡ filledRows kind code p readings steps ++ drop (steps * states) (rows .given)
+
+-- ---- the decoding
+
+-- `decode`: a code and a keep pattern as the code holds them, and room for the word and the survivors
+pub record Decodable (code : ConvCode) (half : ℕ) (keep : KeepPattern) (info : ℕ) (out scratch : List ℕ) : Type 0 where
+  pub shape : Halved code half
+  pub pattern : Rows keep
+  pub few : info ≤ most
+  pub room : info ≤ length out
+  pub rows : stepsOf code info * (2 * half) ≤ length scratch
+
+-- `decode`: the score r, the word over the front of `out`, and the survivors of `states` states over that of `scratch`
+pub record Finds
+    {A M : Type 0} (kind : Kind A M) (code : ConvCode) (p : Keep) (states info : ℕ) (readings : List A) (r : M)
+    (out scratch : Lent ℕ) : Type 0 where
+  pub scored : r ≡ score kind code p readings info
+  pub output : out .left ≡ word kind code p readings info ++ drop info (out .given)
+  pub survivors :
+      scratch .left
+      ≡ filledRows kind code p readings (stepsOf code info) ++ drop (stepsOf code info * states) (scratch .given)

@@ -1,0 +1,8 @@
+-- Arithmetic: the numbers that readings are, and a kind of decoder. Gain: what a branch brings, and one step. Decode:
+-- word, score and survivors. Inner: what the inner functions of a decoder ask and ensure. Whole: the decoder in whole
+-- numbers.
+pub mod Arithmetic
+pub mod Gain
+pub mod Decode
+pub mod Inner
+pub mod Whole
