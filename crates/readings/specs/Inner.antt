@@ -9,9 +9,11 @@ use Rattle.correlation.specs.Inner as any
 use Rattle.refusal.specs.Lent.{Lent}
 use Rattle.refusal.specs.Limits.{most}
 use Rattle.trellis.specs.declared.ConvCode.{ConvCode}
+use Rattle.trellis.specs.declared.KeepPattern.{KeepPattern}
 use Rattle.trellis.specs.Choice.{k7, codeOf, patternOf}
 use Rattle.trellis.specs.Codeword.{stepsOf}
 use Rattle.trellis.specs.Keep.{Keep}
+use Rattle.trellis.specs.Post.{Rows}
 use Rattle.readings.specs.Sums.{soft}
 
 -- ---- one step, all steps, the decoding: a decoder's in f32
