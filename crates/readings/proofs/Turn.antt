@@ -111,7 +111,7 @@ module _
             (add binary32 x y) (sub binary32 (neg x) y)
             (sum-correlates a b x y (getD c0 n 0) (getD c1 n 0) of-a of-b)
             (opposite-correlates a b x y (getD c0 n 0) (getD c1 n 0) of-a of-b bit0 bit1)
-            s (now .counter) w winged
+            s (now .counter) winged
 
       pub paired-goes-on :
           {next' : List Float} {row' : List ℕ} →

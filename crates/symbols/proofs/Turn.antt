@@ -110,7 +110,7 @@ module _
           (λ (r : ℕ). getD pm r nan) x y
           (of-x ∙ pair-cost re im r priced (getD c0 n 0) (getD c1 n 0) bit0 bit1)
           (of-y ∙ opposite-cost re im r priced (getD c0 n 0) (getD c1 n 0) bit0 bit1)
-          s (now .counter) w winged
+          s (now .counter) winged
 
     pub paired-goes-on :
         {next' : List Float} {row' : List ℕ} →
