@@ -4,18 +4,18 @@ use native.Mathlib.Omega.{arith}
 use borrow.Author.Needs.{needs}
 use lib.ListN.{length-set}
 use Rattle.symbols.specs.Inner.{half}
-use Rattle.symbols.proofs.Turn.{Paired, paired-starts, paired-goes-on, paired-ends}
+use Rattle.symbols.proofs.Turn.{Turns, turns-start, turns-go-on, turns-end}
 use Rattle.symbols.proofs.forward_pass.step.Statement.{statement}
 use Rattle.symbols.proofs.forward_pass.step.Tie as tie
 
 abbrev Inv-loop : tie.InvT-loop
-Inv-loop c0 c1 re im pm next₀ row₀ of-00 of-01 of-10 of-11 s₀ n₀ next row s n = Paired c0 c1 re im pm next₀ row₀ next row s n
+Inv-loop c0 c1 re im pm next₀ row₀ of-00 of-01 of-10 of-11 s₀ n₀ next row s n = Turns c0 c1 re im pm next₀ row₀ next row s n
 
 abbrev μ-loop : tie.MeasureT-loop
 μ-loop c0 c1 re im pm next₀ row₀ of-00 of-01 of-10 of-11 s₀ n₀ next row s n = half - n
 
 loop-holds : tie.Need-loop-holds Inv-loop μ-loop
-loop-holds c = paired-starts
+loop-holds c = turns-start
 
 slice-write-row-2 : tie.Need-slice-write-row-2 Inv-loop μ-loop
 slice-write-row-2 c = simp length-set (omega arith)
@@ -28,16 +28,16 @@ loop-again c =
     let turn : tie.In-loop Inv-loop μ-loop = search in
     let head : tie.At-loop Inv-loop μ-loop = search in
     let prices : tie.After-prices-of Inv-loop μ-loop = search in
-    paired-goes-on (head .loop .inv) (turn .loop-test .taken) (prices .prices-of .ensures) (first .cost-of-pair .ensures)
+    turns-go-on (head .loop .inv) (turn .loop-test .taken) (prices .prices-of .ensures) (first .cost-of-pair .ensures)
     (second .cost-of-pair2 .ensures) (pair .butterfly .ensures) (search) (search)
 
 same-length : tie.Need-same-length Inv-loop μ-loop
-same-length c = c .before .loop .inv .size
+same-length c = c .before .loop .inv .paired .size
 
 returns : tie.Need-returns Inv-loop μ-loop
 returns c =
     let start : tie.Start Inv-loop μ-loop = search in
-    paired-ends (c .before .loop .inv) (c .loop-test .left) (start .pre .crossed) (omega arith) (start .pre .room)
+    turns-end (c .before .loop .inv) (c .loop-test .left) (start .pre .crossed) (omega arith) (start .pre .room)
 
 pub step-spec : {M : Type 1} → statement M
 step-spec =
