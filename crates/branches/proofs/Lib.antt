@@ -1,2 +1,3 @@
--- Unique: each contract allows one outcome at most.
+-- Orders: what holds of the two metrics. Unique: each contract allows one outcome at most.
+pub mod Orders
 pub mod Unique

@@ -10,7 +10,7 @@ use lib.Ieee.{Float}
 use Rattle.best_path.proofs.Candidates.{where-false}
 use Rattle.f32s.specs.Single.{within}
 use Rattle.refusal.specs.Answer.{accepted, refused}
-use Rattle.symbols.specs.Post.{newMets, newFroms}
+use Rattle.symbols.specs.Inner.{newMets, newFroms}
 use Rattle.trellis.specs.Choice.{k5}
 use Rattle.streaming.specs.declared.Front.{Front}
 use Rattle.streaming.specs.declared.Heard.the-variants as heard
@@ -21,7 +21,7 @@ use Rattle.streaming.specs.Held.{lag, standing, RefusesAt, Steps}
 
 module _ (front next : Front) (history left : List ℕ) (re im : Float) where
   pub parts-fed :
-      (mets : List Float) (froms : List ℕ) → mets ≡ newMets (front .pm) re im → froms ≡ newFroms (front .pm) re im ++ [] →
+      (mets : List Float) (froms : List ℕ) → mets ≡ newMets k5 (front .pm) re im → froms ≡ newFroms k5 (front .pm) re im ++ [] →
       left ≡ kept mets froms (16 * (front .turn % 128)) 16 history →
       next .pm ≡ cond (eqb (front .turn % turns) 255) (normalised 16 mets) mets →
       next .count ≡ min (suc (front .count % (lag + 2))) (suc lag) → next .turn ≡ suc (front .turn % turns) % turns →
@@ -29,11 +29,11 @@ module _ (front next : Front) (history left : List ℕ) (re im : Float) where
   unfolding fed metsAfter fromsAfter stepped
   parts-fed mets froms of-mets of-froms of-left of-pm of-count of-turn =
       let row : 16 * (front .turn % 128) ≡ front .turn % turns % rowsKept * 16 = omega arith in
-      let of-row : left ≡ kept (newMets (front .pm) re im) (newFroms (front .pm) re im) (front .turn % turns % rowsKept * 16) 16 history =
+      let of-row : left ≡ kept (newMets k5 (front .pm) re im) (newFroms k5 (front .pm) re im) (front .turn % turns % rowsKept * 16) 16 history =
       of-left
       ∙ ap (λ (at : ℕ). kept mets froms at 16 history) row
-      ∙ ap₂ (λ (ms : List Float) (fs : List ℕ). kept ms fs (front .turn % turns % rowsKept * 16) 16 history) of-mets (of-froms ∙ append-nil (newFroms (front .pm) re im)) in
-      let of-metrics : next .pm ≡ cond (eqb (front .turn % turns) 255) (normalised 16 (newMets (front .pm) re im)) (newMets (front .pm) re im) =
+      ∙ ap₂ (λ (ms : List Float) (fs : List ℕ). kept ms fs (front .turn % turns % rowsKept * 16) 16 history) of-mets (of-froms ∙ append-nil (newFroms k5 (front .pm) re im)) in
+      let of-metrics : next .pm ≡ cond (eqb (front .turn % turns) 255) (normalised 16 (newMets k5 (front .pm) re im)) (newMets k5 (front .pm) re im) =
       of-pm ∙ ap (λ (ms : List Float). cond (eqb (front .turn % turns) 255) (normalised 16 ms) ms) of-mets in
       λ i. record { pm = of-metrics i; history = of-row i; count = of-count i; turn = of-turn i }
 

@@ -3,7 +3,8 @@ ghost use mathlib.Core.List.{_++_};
 ghost use mathlib.Core.Path.{_≡_};
 ghost use Prim.Native.Nat.{_≤_};
 ghost use lib.ListN.{length, drop};
-ghost use Rattle.symbols.specs.Post.{newMets, newFroms};
+ghost use Rattle.symbols.specs.Inner.{newMets, newFroms};
+ghost use Rattle.trellis.specs.Choice.{k5};
 ghost use Rattle.streaming.specs.Stream.{leastOf, lowered, normalised};
 ghost use Rattle.streaming.specs.Held.{NormalisedAfter};
 use crate::Front;
@@ -15,12 +16,12 @@ use symbols::forward_pass::step;
 // One symbol: the new metrics go to next, the survivors to the front of froms.
 pub fn select(re: f32, im: f32, pm: &[f32; 16], next: &mut [f32; 16], froms: &mut [u8])
     requires { ⌜ 16 ≤ length (now froms) ⌝ }
-    ensures mets { λ _. ⌜ now (next .exit) ≡ newMets (now (pm .entry)) re im ⌝ }
-    ensures froms { λ _. ⌜ now (froms .exit) ≡ newFroms (now (pm .entry)) re im ++ drop 16 (now (froms .entry)) ⌝ }
+    ensures mets { λ _. ⌜ now (next .exit) ≡ newMets k5 (now (pm .entry)) re im ⌝ }
+    ensures froms { λ _. ⌜ now (froms .exit) ≡ newFroms k5 (now (pm .entry)) re im ++ drop 16 (now (froms .entry)) ⌝ }
 {
     let c0 = SENT0;
     let c1 = SENT1;
-    step(&c0, &c1, re, im, pm, next, froms);
+    step(trellis::conv_code(0), &c0, &c1, re, im, pm, next, froms);
 }
 
 // The least reachable metric, and the mark where none is reachable.

@@ -1,5 +1,6 @@
--- What the costs and the metrics of symbols can come to where every component is within ±1,024: a cost is from 0 up to 257 * 2 ^ 13, a metric after t
--- symbols is the mark or from 0 up to t times that. So no branch out of a reached state comes to the mark. Assumes nothing.
+-- What the costs and the metrics of symbols can come to where every component is within ±1,024: a cost is from 0 up to
+-- 257 * 2 ^ 13, a metric after t symbols is the mark or from 0 up to t times that. So no branch out of a reached state comes to the
+-- mark. Assumes nothing.
 use mathlib.Core.Bool.{true, false, true≢false}
 use mathlib.Core.List.{List}
 use mathlib.Core.Logic.{_⊎_, inl, inr}
@@ -55,7 +56,9 @@ module _ (re im : Float) (re-in : within re ≡ true) (im-in : within im ≡ tru
   near-cost : (at : Phasor) → Near at → UpTo 257 13 (cost re im at)
   unfolding cost
   near-cost at near =
-      wider-between (sum-up-to binary32 0 (lit≤ tt) (difference-square-up-to re re-in (near .re-near)) (difference-square-up-to im im-in (near .im-near)) (lit≤ tt)) zero-le (lit≤ tt)
+      let across = difference-square-up-to re re-in (near .re-near) in
+      let up = difference-square-up-to im im-in (near .im-near) in
+      wider-between (sum-up-to binary32 0 (lit≤ tt) across up (lit≤ tt)) zero-le (lit≤ tt)
 
   pub cost-bounded : (c0 c1 : ℕ) → UpTo 257 13 (cost re im (phasorOf c0 c1))
   cost-bounded c0 c1 = near-cost (phasorOf c0 c1) (phasor-near c0 c1)
@@ -86,22 +89,33 @@ abbrev pub metricAt : ConvCode → List Float → ℕ → ℕ → Float
 metricAt code soft t s = getD (mets code soft t) s mark
 
 pub started-bounded : (code : ConvCode) (s : ℕ) → s < 2 ^ code .width → MarkOrUpTo 0 (getD (started code) s mark)
-started-bounded code s h = started-holds smallest code zero32 (MarkOrUpTo 0) (inr (unfold ofBits in record { lies = zero-le })) (inl refl) s
+started-bounded code s h =
+    started-holds smallest code zero32 (MarkOrUpTo 0) (inr (unfold ofBits in record { lies = zero-le })) (inl refl) s
 
-module _ (code : ConvCode) (some : 0 < code .width) (soft : List Float) (n : ℕ) (few : 257 * n ≤ 2 ^ 24) (all-within : (i : ℕ) → i < 2 * n → within (getD soft i nan) ≡ true) where
+module _
+    (code : ConvCode) (some : 0 < code .width) (soft : List Float) (n : ℕ) (few : 257 * n ≤ 2 ^ 24)
+    (all-within : (i : ℕ) → i < 2 * n → within (getD soft i nan) ≡ true) where
   abbrev Bounded : ℕ → Float → Type 0
   Bounded t m = t ≤ n → MarkOrUpTo (257 * t) m
 
-  candidate-bounded : (t s i : ℕ) (m : Float) → t < n → MarkOrUpTo (257 * t) m → smallest .reached m ≡ true → UpTo (257 * suc t) 13 (smallest .add m (symbolCosts code soft t s i))
+  -- a metric and the branch of symbol t from the state s on the input i
+  abbrev candidate : (t s i : ℕ) → Float → Float
+  candidate t s i m = smallest .add m (symbolCosts code soft t s i)
+
+  candidate-bounded :
+      (t s i : ℕ) (m : Float) → t < n → MarkOrUpTo (257 * t) m → smallest .reached m ≡ true →
+      UpTo (257 * suc t) 13 (candidate t s i m)
   unfolding symbolCosts
   candidate-bounded t s i m l h r =
       let more : 257 * suc t ≡ 257 * t + 257 = omega arith in
-      rw more
-      (sum-up-to binary32 13 (lit≤ tt) (reached-up-to h r)
-      (branch-bounded (getD soft (2 * t) nan) (getD soft (2 * t + 1) nan) (all-within (2 * t) (omega arith)) (all-within (2 * t + 1) (omega arith)) code s i)
-      (omega arith))
+      let re-in = all-within (2 * t) (omega arith) in
+      let im-in = all-within (2 * t + 1) (omega arith) in
+      let branch = branch-bounded (getD soft (2 * t) nan) (getD soft (2 * t + 1) nan) re-in im-in code s i in
+      rw more (sum-up-to binary32 13 (lit≤ tt) (reached-up-to h r) branch (omega arith))
 
-  winner-bounded : (t s i : ℕ) (m y : Float) → Bounded t m → smallest .reached m ≡ true → smallest .better (smallest .add m (symbolCosts code soft t s i)) y ≡ true → Bounded (suc t) (smallest .add m (symbolCosts code soft t s i))
+  winner-bounded :
+      (t s i : ℕ) (m y : Float) → Bounded t m → smallest .reached m ≡ true → smallest .better (candidate t s i m) y ≡ true →
+      Bounded (suc t) (candidate t s i m)
   winner-bounded t s i m y h r b l = inr (candidate-bounded t s i m (omega arith) (h (omega arith)) r)
 
   pub metrics-bounded : (t s : ℕ) → t ≤ n → s < 2 ^ code .width → MarkOrUpTo (257 * t) (metricAt code soft t s)
@@ -110,6 +124,8 @@ module _ (code : ConvCode) (some : 0 < code .width) (soft : List Float) (n : ℕ
       metric-kept smallest code some (symbolCosts code soft) Bounded (λ t l. inl refl) winner-bounded (started code)
       (λ s h l. started-bounded code s h) t s h l
 
-  pub candidate-below-mark : (t s i : ℕ) → t < n → s < 2 ^ code .width → smallest .reached (metricAt code soft t s) ≡ true → lt (smallest .add (metricAt code soft t s) (symbolCosts code soft t s i)) mark ≡ true
+  pub candidate-below-mark :
+      (t s i : ℕ) → t < n → s < 2 ^ code .width → smallest .reached (metricAt code soft t s) ≡ true →
+      lt (smallest .add (metricAt code soft t s) (symbolCosts code soft t s i)) mark ≡ true
   candidate-below-mark t s i l h r =
       up-to-below (omega arith) (candidate-bounded t s i (metricAt code soft t s) l (metrics-bounded t s (omega arith) h) r)

@@ -1,7 +1,8 @@
--- The count in an accepted answer is how many bits are written, and scratch has a row of survivors for each of them. Assumes nothing.
+-- The count in an accepted answer is how many bits are written, and scratch has a row of survivors for each of them. Assumes
+-- nothing.
 use mathlib.Core.List.{List}
 use mathlib.Core.Path.{_≡_, _∙_}
-use Prim.Native.Nat.{ℕ, _*_, _^_}
+use Prim.Native.Nat.{ℕ, _*_, _^_, _<_}
 use lib.Dec.{ltb}
 use lib.Ieee.{Float}
 use lib.ListN.{length, take}
@@ -12,35 +13,44 @@ use Rattle.refusal.specs.Answer.{Said, accepted}
 use Rattle.refusal.specs.Limits.{most}
 use Rattle.refusal.proofs.FirstBad.{accepted-past-bad}
 use Rattle.refusal.proofs.Told.{accepted-past, accepted-told}
+use Rattle.trellis.specs.declared.ConvCode.{ConvCode}
 use Rattle.trellis.specs.Choice.{k5}
 use Rattle.symbols.specs.Decode.{firstLeast, mets, froms, word, filledRows}
 use Rattle.symbols.specs.Said.{roomFor, symbolsIn, softSaid, hardSaid, phasorsOf}
 use Rattle.symbols.proofs.Steps.{rows-filled}
 
-pub length-word : (soft : List Float) (count : ℕ) → length (word k5 soft count) ≡ count
+pub length-word : (code : ConvCode) (soft : List Float) (count : ℕ) → length (word code soft count) ≡ count
 unfolding word
-length-word soft count = length-traced smallest k5 (froms k5 soft) count (firstLeast (mets k5 soft count) (2 ^ k5 .width))
+length-word code soft count =
+    length-traced smallest code (froms code soft) count (firstLeast (mets code soft count) (2 ^ code .width))
 
-pub length-survivors : (soft : List Float) (count : ℕ) → length (filledRows k5 soft count) ≡ count * 2 ^ k5 .width
-length-survivors soft count = length-rows (rows-filled soft) count
+pub length-survivors :
+    (code : ConvCode) → 0 < code .width → (soft : List Float) (count : ℕ) →
+    length (filledRows code soft count) ≡ count * 2 ^ code .width
+length-survivors code some soft = length-rows (rows-filled code some soft)
 
 -- what was accepted had room
-room-past : {A : Type 0} (count room scratch : ℕ) (rest : Said A) (a : A) → roomFor count room scratch rest ≡ accepted a → rest ≡ accepted a
+room-past :
+    {A : Type 0} (count room scratch : ℕ) (rest : Said A) (a : A) → roomFor count room scratch rest ≡ accepted a →
+    rest ≡ accepted a
 room-past count room scratch rest a e =
     accepted-past (ltb scratch (count * 2 ^ k5 .width)) 5 rest a
     (accepted-past (ltb room count) 4 _ a (accepted-past (ltb most count) 3 _ a e))
 
 -- `viterbi_decode`
 pub soft-count :
-    (soft : List Float) (room scratch n : ℕ) → softSaid soft room scratch ≡ accepted n → length (word k5 soft (symbolsIn soft)) ≡ n
+    (soft : List Float) (room scratch n : ℕ) → softSaid soft room scratch ≡ accepted n →
+    length (word k5 soft (symbolsIn soft)) ≡ n
 unfolding softSaid
 soft-count soft room scratch n e =
-    length-word soft (symbolsIn soft)
-    ∙ accepted-told _ n (accepted-past-bad within 7 (take (2 * symbolsIn soft) soft) _ n (room-past (symbolsIn soft) room scratch _ n e))
+    let fits = room-past (symbolsIn soft) room scratch _ n e in
+    length-word k5 soft (symbolsIn soft)
+    ∙ accepted-told _ n (accepted-past-bad within 7 (take (2 * symbolsIn soft) soft) _ n fits)
 
 -- `viterbi_decode_hard`
 pub hard-count :
-    (bits : List ℕ) (room scratch n : ℕ) → hardSaid bits room scratch ≡ accepted n → length (word k5 (phasorsOf bits) (symbolsIn bits)) ≡ n
+    (bits : List ℕ) (room scratch n : ℕ) → hardSaid bits room scratch ≡ accepted n →
+    length (word k5 (phasorsOf bits) (symbolsIn bits)) ≡ n
 unfolding hardSaid
 hard-count bits room scratch n e =
-    length-word (phasorsOf bits) (symbolsIn bits) ∙ accepted-told _ n (room-past (symbolsIn bits) room scratch _ n e)
+    length-word k5 (phasorsOf bits) (symbolsIn bits) ∙ accepted-told _ n (room-past (symbolsIn bits) room scratch _ n e)

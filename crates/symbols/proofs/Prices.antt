@@ -1,14 +1,30 @@
--- A coded pair's cost, picked by tests from the four of a symbol, and the opposite pair's. Assumes nothing.
+-- The four costs of a symbol by the phasor table as the code holds it; a coded pair's cost, picked by tests from the four, and the
+-- opposite pair's. Assumes nothing.
 use mathlib.Core.Path.{_≡_}
 use Prim.Native.Nat.{ℕ, zero, suc, _-_, _<_}
 use native.Mathlib.Omega.{arith}
-use lib.Ieee.{Float}
+use lib.Ieee.{Float, binary32, ofBits, neg}
+use Rattle.f32s.specs.Single.{zero32}
 use Rattle.symbols.specs.Costs.{cost, phasorOf}
-use Rattle.symbols.specs.Post.{Priced, pairCost}
+use Rattle.symbols.specs.Inner.{Priced, pairCost}
 use Rattle.symbols.specs.declared.phasors.Prices.{Prices}
 
+-- the phasors of 01 and 11 have a -1, which the code holds as its bits
+module _ (re im : Float) {price : Float} where
+  pub price-01 :
+      price ≡ cost re im (record { re = zero32; im = ofBits binary32 0xbf80_0000 }) → price ≡ cost re im (phasorOf 0 1)
+  unfolding ofBits neg
+  price-01 e = e
+
+  pub price-11 :
+      price ≡ cost re im (record { re = ofBits binary32 0xbf80_0000; im = zero32 }) → price ≡ cost re im (phasorOf 1 1)
+  unfolding ofBits neg
+  price-11 e = e
+
 module _ (re im : Float) (r : Prices) (priced : Priced re im r) where
-  pub pair-cost : (c0 c1 : ℕ) → c0 < 2 → c1 < 2 → pairCost c0 c1 (r .of_00) (r .of_01) (r .of_10) (r .of_11) ≡ cost re im (phasorOf c0 c1)
+  pub pair-cost :
+      (c0 c1 : ℕ) → c0 < 2 → c1 < 2 →
+      pairCost c0 c1 (r .of_00) (r .of_01) (r .of_10) (r .of_11) ≡ cost re im (phasorOf c0 c1)
   pair-cost zero zero h g = priced .of-00
   pair-cost zero (suc zero) h g = priced .of-01
   pair-cost zero (suc (suc c1)) h g = absurd (omega arith)
@@ -17,7 +33,9 @@ module _ (re im : Float) (r : Prices) (priced : Priced re im r) where
   pair-cost (suc zero) (suc (suc c1)) h g = absurd (omega arith)
   pair-cost (suc (suc c0)) c1 h g = absurd (omega arith)
 
-  pub opposite-cost : (c0 c1 : ℕ) → c0 < 2 → c1 < 2 → pairCost c0 c1 (r .of_11) (r .of_10) (r .of_01) (r .of_00) ≡ cost re im (phasorOf (1 - c0) (1 - c1))
+  pub opposite-cost :
+      (c0 c1 : ℕ) → c0 < 2 → c1 < 2 →
+      pairCost c0 c1 (r .of_11) (r .of_10) (r .of_01) (r .of_00) ≡ cost re im (phasorOf (1 - c0) (1 - c1))
   opposite-cost zero zero h g = priced .of-11
   opposite-cost zero (suc zero) h g = priced .of-10
   opposite-cost zero (suc (suc c1)) h g = absurd (omega arith)

@@ -1,65 +1,150 @@
--- Symbols one after the other: the metrics that the code holds are those after t symbols, and the rows of survivors grow. Assumes nothing.
-use mathlib.Core.List.{List}
-use mathlib.Core.Path.{_≡_, refl, ap, ap₂, subst}
-use Prim.Native.Nat.{ℕ, zero, suc, _+_, _*_}
+-- Symbols one after the other: the metrics that the code holds are those after t symbols, and the rows of survivors grow.
+-- Over any code of as many states as the step is for. Assumes nothing.
+use mathlib.Core.List.{List, _∷_, _++_}
+use mathlib.Core.Path.{_≡_, refl, sym, ap, ap₂, _∙_}
+use Prim.Native.Nat.{ℕ, zero, suc, _+_, _-_, _*_, _^_, _≤_, _<_}
 use native.Mathlib.Omega.{arith}
-use lib.Dec.{lit<, lit≤}
 use lib.Ieee.{Float, nan}
-use lib.ListN.{length, getD, set, replicate}
+use lib.ListN.{length, getD, set, take, drop, replicate, length-append, length-drop, length-replicate}
+use lib.Pow.{pow-pos}
 use Rattle.best_path.specs.Run.{metsAfter}
 use Rattle.best_path.proofs.Held.{Held, held-whole, held-mets, held-froms}
-use Rattle.best_path.proofs.Rows.{StateRows, survivor-rows}
+use Rattle.best_path.proofs.Rows.{StateRows, survivor-rows, length-rows, rows-start, rows-put}
 use Rattle.best_path.proofs.Survivors.{length-mets}
 use Rattle.f32s.specs.Single.{zero32}
-use Rattle.trellis.specs.Choice.{k5, codeOf}
 use Rattle.trellis.specs.declared.ConvCode.{ConvCode}
 use Rattle.trellis.specs.Post.{Halved, Crossed}
-use Rattle.trellis.proofs.Chosen.{code-narrow, code-ends}
+use Rattle.trellis.proofs.States.{states-two-halves}
 use Rattle.branches.specs.Smallest.{mark, smallest}
 use Rattle.symbols.specs.Costs.{costs, started}
-use Rattle.symbols.specs.Decode.{symbolCosts, mets, froms}
-use Rattle.symbols.specs.Post.{newMets, newFroms}
+use Rattle.symbols.specs.Decode.{symbolCosts, firstLeast, mets, froms, filledRows}
+use Rattle.symbols.specs.Inner.{half, newMets, newFroms, Selects, Runnable, Runs}
 
--- what code 0 selects is K5, of 16 states
-pub chosen-k5 : (code : ConvCode) → code ≡ codeOf 0 → code ≡ k5
-unfolding codeOf
-chosen-k5 code e = e
+module _ (code : ConvCode) (some : 0 < code .width) (soft : List Float) where
+  abbrev states : ℕ
+  states = 2 ^ code .width
 
-pub k5-halved : (code : ConvCode) → code ≡ codeOf 0 → Halved code 8
-unfolding codeOf
-k5-halved code e = rw e (record { held = code-narrow 0; few = lit≤ tt; halved = refl; ends = code-ends 0 })
-
-pub k5-crossed : (code : ConvCode) → code ≡ codeOf 0 → (c0 c1 : List ℕ) → Crossed code 8 c0 c1 → Crossed k5 8 c0 c1
-k5-crossed code e c0 c1 h = subst (λ (k : ConvCode). Crossed k 8 c0 c1) (chosen-k5 code e) h
-
-module _ (soft : List Float) where
-  pub mets-start : set (replicate 16 mark) 0 zero32 ≡ mets k5 soft 0
+  pub length-metrics : (t : ℕ) → length (mets code soft t) ≡ states
   unfolding mets metsAfter
-  mets-start = refl
-
-  pub length-mets16 : (t : ℕ) → length (mets k5 soft t) ≡ 16
-  unfolding mets metsAfter
-  length-mets16 zero = refl
-  length-mets16 (suc t) = length-mets smallest k5 (lit< tt) (symbolCosts k5 soft) (started k5) t
+  length-metrics zero = omega (arith, length-replicate (states - 1) mark, pow-pos (code .width))
+  length-metrics (suc t) = length-mets smallest code some (symbolCosts code soft) (started code) t
 
   -- a row of survivors for each symbol, all of them states
-  pub rows-filled : StateRows 16 (froms k5 soft)
+  pub rows-filled : StateRows states (froms code soft)
   unfolding froms
-  rows-filled = survivor-rows smallest k5 (lit< tt) (symbolCosts k5 soft) (started k5)
+  rows-filled = survivor-rows smallest code some (symbolCosts code soft) (started code)
 
-  module _ (pm : List Float) (re im : Float) (t : ℕ) (so-far : pm ≡ mets k5 soft t) (of-re : re ≡ getD soft (2 * t) nan) (of-im : im ≡ getD soft (2 * t + 1) nan) where
-    held : Held smallest k5 (symbolCosts k5 soft) (started k5) nan pm t
-    unfolding mets
-    held = held-whole smallest k5 (symbolCosts k5 soft) (started k5) nan pm t so-far (omega (arith, ap length so-far, length-mets16 t))
+  module _ (t : ℕ) where
+    abbrev re : Float
+    re = getD soft (2 * t) nan
 
-    same-costs : costs k5 re im ≡ symbolCosts k5 soft t
+    abbrev im : Float
+    im = getD soft (2 * t + 1) nan
+
+    same-costs : costs code re im ≡ symbolCosts code soft t
     unfolding symbolCosts
-    same-costs = ap₂ (costs k5) of-re of-im
+    same-costs = refl
 
-    pub new-mets : newMets pm re im ≡ mets k5 soft (t + 1)
-    unfolding mets
-    new-mets = held-mets smallest k5 (symbolCosts k5 soft) (started k5) nan pm t held (costs k5 re im) same-costs
+    module _ {pm : List Float} (so-far : pm ≡ mets code soft t) where
+      held : Held smallest code (symbolCosts code soft) (started code) nan pm t
+      unfolding mets
+      held =
+          held-whole smallest code (symbolCosts code soft) (started code) nan pm t so-far
+          (omega (arith, ap length so-far, length-metrics t))
 
-    pub new-froms : newFroms pm re im ≡ froms k5 soft t
-    unfolding froms
-    new-froms = held-froms smallest k5 (symbolCosts k5 soft) (started k5) nan pm t held (costs k5 re im) same-costs
+      new-mets : newMets code pm re im ≡ mets code soft (t + 1)
+      unfolding mets
+      new-mets = held-mets smallest code (symbolCosts code soft) (started code) nan pm t held (costs code re im) same-costs
+
+      new-froms : newFroms code pm re im ≡ froms code soft t
+      unfolding froms
+      new-froms = held-froms smallest code (symbolCosts code soft) (started code) nan pm t held (costs code re im) same-costs
+
+-- ---- the loop
+
+-- what the code's shape says of its states
+module _ {code : ConvCode} (shape : Halved code half) (soft : List Float) where
+  pub two-halves : 2 ^ code .width ≡ 2 * half
+  two-halves = omega (arith, states-two-halves code (shape .held .some), shape .halved)
+
+  pub filled-by : StateRows (2 * half) (froms code soft)
+  filled-by = rw (← two-halves) (rows-filled code (shape .held .some) soft)
+
+  mets-start : set (replicate (2 * half) mark) 0 zero32 ≡ mets code soft 0
+  unfolding mets metsAfter
+  mets-start = ap (λ (n : ℕ). zero32 ∷ replicate (n - 1) mark) (sym two-halves)
+
+-- The invariant: after t symbols the metrics are the definition's, and the survivors of t symbols stand over the front of the
+-- rows.
+pub record Forwarded
+    (code : ConvCode) (soft : List Float) (count : ℕ) (old c0 c1 : List ℕ) (rows : List ℕ) (pm : List Float) (to t : ℕ)
+    : Type 0 where
+  pub ready : Runnable code soft count old
+  pub crossed : Crossed code half c0 c1
+  pub turns : t ≤ count
+  pub place : to ≡ t * (2 * half)
+  pub metrics : pm ≡ mets code soft t
+  pub survivors : rows ≡ filledRows code soft t ++ drop (t * (2 * half)) old
+
+pub forwarded-starts :
+    {code : ConvCode} {soft : List Float} {count : ℕ} {old c0 c1 : List ℕ} →
+    Runnable code soft count old → Crossed code half c0 c1 →
+    Forwarded code soft count old c0 c1 old (set (replicate (2 * half) mark) 0 zero32) 0 0
+forwarded-starts {code} {soft} {count} {old} ready crossed =
+    record {
+      ready = ready;
+      crossed = crossed;
+      turns = omega arith;
+      place = omega arith;
+      metrics = mets-start (ready .shape) soft;
+      survivors = rows-start (filled-by (ready .shape) soft) old;
+    }
+
+module _
+    {code : ConvCode} {soft : List Float} {count : ℕ} {old c0 c1 : List ℕ} {rows : List ℕ} {pm : List Float} {to t : ℕ}
+    (now : Forwarded code soft count old c0 c1 rows pm to t) where
+  abbrev shape : Halved code half
+  shape = now .ready .shape
+
+  -- the rows are as long as they were
+  pub rows-sized : length rows ≡ length old
+  rows-sized =
+      let front = length-rows (filled-by shape soft) t in
+      ap length (now .survivors)
+      ∙ simp (length-append, length-drop) (omega (arith, front, now .turns, now .ready .room))
+
+  pub forwarded-ends :
+      count ≤ t → {r : ℕ} → r ≡ firstLeast pm (2 * half) → Runs code soft count r (record { given = old; left = rows })
+  forwarded-ends past {r} found =
+      let end : t ≡ count = omega (arith, now .turns) in
+      let two = two-halves shape soft in
+      record {
+        last = found ∙ ap₂ firstLeast (rw end at (now .metrics)) (sym two);
+        survivors = rw (two) (rw end at (now .survivors));
+      }
+
+  -- a symbol
+  module _ (h : t < count) where
+    pub row-within : to + 2 * half ≤ length rows
+    row-within = omega (arith, now .place, rows-sized, now .ready .room)
+
+    pub forwarded-goes-on :
+        {next next' : List Float} {part : List ℕ} {to' : ℕ} →
+        Selects code pm (getD soft (2 * t) nan) (getD soft (2 * t + 1) nan) (record { given = next; left = next' })
+        (record { given = take (length rows - to) (drop to rows); left = part }) →
+        to' ≡ to + 2 * half →
+        Forwarded code soft count old c0 c1 (take to rows ++ (part ++ drop (length rows - to) (drop to rows))) next' to' (t + 1)
+    forwarded-goes-on {next} {next'} {part} selects place' =
+        let some = shape .held .some in
+        let rest = take (length rows - to) (drop to rows) in
+        let froms-row = new-froms code some soft t (now .metrics) in
+        let row : part ≡ froms code soft t ++ drop (2 * half) rest =
+        selects .froms ∙ ap₂ (λ (l : List ℕ) (n : ℕ). l ++ drop n rest) froms-row (two-halves shape soft) in
+        record {
+          ready = now .ready;
+          crossed = now .crossed;
+          turns = omega arith;
+          place = omega (arith, place', now .place);
+          metrics = selects .mets ∙ new-mets code some soft t (now .metrics);
+          survivors = rows-put (filled-by shape soft) old rows part to t (now .survivors) (now .place) row;
+        }

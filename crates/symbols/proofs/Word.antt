@@ -1,34 +1,59 @@
--- The way back over the rows that all symbols leave is the definition's. Assumes nothing.
+-- The way back over the rows that all symbols leave: it can be walked from the first least state, and spells the word. Assumes
+-- nothing.
 use mathlib.Core.List.{List, _++_}
-use mathlib.Core.Path.{_≡_, refl, ap₂, _∙_}
-use Prim.Native.Nat.{ℕ, _≤_, _<_}
+use mathlib.Core.Path.{_≡_, refl, sym, ap, _∙_}
+use Prim.Native.Nat.{ℕ, _*_, _^_, _<_}
 use native.Mathlib.Omega.{arith}
-use lib.Dec.{lit<, lit≤}
+use lib.Dec.{lit<}
 use lib.Ieee.{Float}
-use lib.ListN.{take}
+use lib.ListN.{length, take, drop}
 use lib.Seq.{take-all}
 use Rattle.best_path.specs.Path.{wholes}
 use Rattle.best_path.specs.Rows.{rowOf, Traceable}
 use Rattle.best_path.specs.Run.{traced}
-use Rattle.best_path.proofs.Rows.{length-traced, left-traceable, left-way-back}
+use Rattle.best_path.proofs.Rows.{StateRows, length-traced, left-traceable, left-way-back}
 use Rattle.trellis.specs.declared.ConvCode.{ConvCode}
-use Rattle.trellis.specs.Choice.{k5, codeOf}
+use Rattle.trellis.specs.Post.{Halved}
 use Rattle.branches.specs.Smallest.{smallest}
-use Rattle.symbols.specs.Decode.{firstLeast, mets, froms, word, filledRows}
+use Rattle.symbols.specs.Decode.{mets, froms, word}
+use Rattle.symbols.specs.Inner.{half, Runs, Decodable, Finds}
 use Rattle.symbols.proofs.Least.{least-below}
-use Rattle.symbols.proofs.Steps.{chosen-k5, k5-halved, rows-filled}
+use Rattle.symbols.proofs.Steps.{two-halves, filled-by}
 
+-- what a decoding is given, and what its symbols leave
 module _
-    (soft : List Float) (count : ℕ) (list rest : List ℕ) (left : list ≡ filledRows k5 soft count ++ rest) (last : ℕ)
-    (of-last : last ≡ firstLeast (mets k5 soft count) 16) (code : ConvCode) (is-k5 : code ≡ codeOf 0) where
-  pub word-traceable : (room : ℕ) → count ≤ room → Traceable code 8 list count last count room
-  word-traceable room fits =
-      left-traceable (rows-filled soft) code 8 count list rest refl (k5-halved code is-k5 .halved) (lit≤ tt) left last count room
-      (omega (arith, of-last, least-below (mets k5 soft count) 16 16 (lit< tt) (lit≤ tt))) (omega arith) fits
+    {code : ConvCode} {soft : List Float} {count : ℕ} {out scratch : List ℕ} (ready : Decodable code soft count out scratch)
+    {last : ℕ} {left : List ℕ} (ran : Runs code soft count last (record { given = scratch; left = left })) where
+  abbrev shape : Halved code half
+  shape = ready .ready .shape
 
-  pub word-traced : take count (traced wholes code (rowOf 16 list) count last) ≡ word k5 soft count
+  abbrev rows : StateRows (2 * half) (froms code soft)
+  rows = filled-by shape soft
+
+  -- the way back as the rows have it
+  abbrev way : List ℕ
+  way = traced wholes code (rowOf (2 * half) left) count last
+
+  is-state : last < 2 * half
+  is-state =
+      let two = two-halves shape soft in
+      omega (arith, ran .last, least-below (mets code soft count) (2 ^ code .width) (2 * half) (lit< tt) (omega (arith, two)))
+
+  pub way-walkable : Traceable code half left count last count (length out)
+  way-walkable =
+      left-traceable rows code half count left _ refl (shape .halved) (shape .few) (ran .survivors) last count (length out)
+      is-state (omega arith) (ready .room)
+
+  spelled : take count way ≡ word code soft count
   unfolding word
-  word-traced =
-      take-all count (traced wholes code (rowOf 16 list) count last) (omega (arith, length-traced wholes code (rowOf 16 list) count last))
-      ∙ left-way-back (rows-filled soft) code 8 count list rest refl (k5-halved code is-k5 .halved) (lit≤ tt) left smallest last
-      ∙ ap₂ (λ (k : ConvCode) (s : ℕ). traced smallest k (froms k5 soft) count s) (chosen-k5 code is-k5) of-last
+  spelled =
+      take-all count way (omega (arith, length-traced wholes code (rowOf (2 * half) left) count last))
+      ∙ left-way-back rows code half count left _ refl (shape .halved) (shape .few) (ran .survivors) smallest last
+      ∙ ap (traced smallest code (froms code soft) count) (ran .last)
+
+  -- so where the way back is written to the output, word and survivors are found
+  pub way-finds :
+      {new : List ℕ} → new ≡ take count (traced wholes code (rowOf (2 * half) left) count last) ++ drop count out →
+      Finds code soft count (record { given = out; left = new }) (record { given = scratch; left = left })
+  way-finds e =
+      record { output = e ∙ ap (λ (l : List ℕ). l ++ drop count out) spelled; survivors = ran .survivors }

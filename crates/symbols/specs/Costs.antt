@@ -29,12 +29,14 @@ phasorOf c0 c1 = getD phasors (2 * c0 + c1) (record { re = one32; im = zero32 })
 -- (re-e)·(re-e) + (im-f)·(im-f)
 unfoldable pub cost : Float → Float → Phasor → Float
 cost re im at =
-    add binary32 (mul binary32 (sub binary32 re (at .re)) (sub binary32 re (at .re))) (mul binary32 (sub binary32 im (at .im)) (sub binary32 im (at .im)))
+    add binary32 (mul binary32 (sub binary32 re (at .re)) (sub binary32 re (at .re)))
+    (mul binary32 (sub binary32 im (at .im)) (sub binary32 im (at .im)))
 
 -- what the branch from the state s on the input i costs, where a symbol reads re and im
 unfoldable pub costs : ConvCode → Float → Float → ℕ → ℕ → Float
 unfolding cost parityOf
-costs code re im s i = cost re im (phasorOf (parityOf (code .g0) (window code s i)) (parityOf (code .g1) (window code s i)))
+costs code re im s i =
+    cost re im (phasorOf (parityOf (code .g0) (window code s i)) (parityOf (code .g1) (window code s i)))
 
 -- State 0 starts at 0.0.
 abbrev pub started : ConvCode → List Float

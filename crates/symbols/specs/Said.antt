@@ -18,7 +18,9 @@ examined used rest = refuseAtBad 7 within used rest
 -- so many symbols, a byte each for the output and a row of survivors each for scratch
 abbrev pub roomFor : {A : Type 0} → (count room scratch : ℕ) → Said A → Said A
 roomFor count room scratch rest =
-    refuseWhen (ltb most count) 3 (refuseWhen (ltb room count) 4 (refuseWhen (ltb scratch (count * 2 ^ k5 .width)) 5 rest))
+    refuseWhen (ltb most count) 3
+    (refuseWhen (ltb room count) 4
+    (refuseWhen (ltb scratch (count * 2 ^ k5 .width)) 5 rest))
 
 -- an odd last component is ignored and unexamined
 abbrev pub symbolsIn : {A : Type 0} → List A → ℕ

@@ -1,7 +1,7 @@
 // The phasor table, and what a branch costs.
 ghost use mathlib.Core.Path.{_≡_};
 ghost use Rattle.symbols.specs.Costs.{cost};
-ghost use Rattle.symbols.specs.Post.{Priced, pairCost};
+ghost use Rattle.symbols.specs.Inner.{Priced, pairCost};
 
 // A point of the constellation.
 pub struct Phasor {

@@ -19,8 +19,9 @@ same-length-2 c = search needs
 
 returns : tie.Need-returns
 returns c =
-    let called = c .before .before .before .before .before .viterbi-decode in
-    (c .count-number .ensures ∙ ap doorNumber (called .ensures .0), called .ensures .1)
+    let called : tie.After-viterbi-decode = search in
+    let decodes = called .viterbi-decode .ensures in
+    (c .count-number .ensures ∙ ap doorNumber (decodes .answer), (decodes .output, decodes .scratch))
 
 pub timed-viterbi-decode-spec : {M : Type 1} → statement M
 timed-viterbi-decode-spec =

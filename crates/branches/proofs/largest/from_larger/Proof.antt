@@ -5,9 +5,6 @@ use Rattle.best_path.proofs.Candidates.{where-true, where-false}
 use Rattle.branches.proofs.largest.from_larger.Statement.{statement}
 use Rattle.branches.proofs.largest.from_larger.Tie as tie
 
-add-result : tie.Need-add-result
-add-result c = search needs
-
 returns : tie.Need-returns
 returns c = where-true (lt (c .before .args .z) (c .before .args .x)) _ _ (c .if1 .taken)
 
@@ -15,4 +12,4 @@ returns-2 : tie.Need-returns-2
 returns-2 c = where-false (lt (c .before .args .z) (c .before .args .x)) _ _ (c .if1 .left)
 
 pub from-larger-spec : {M : Type 1} → statement M
-from-larger-spec = tie.close (tie.spec add-result returns returns-2)
+from-larger-spec = tie.close (tie.spec (search needs) returns returns-2)

@@ -1,17 +1,10 @@
 -- `branches::largest::standing`: a metric above the mark is not at or below it. Assumes nothing.
-use mathlib.Core.Bool.{false, cond}
-use mathlib.Core.Path.{_≡_, refl}
-use lib.Ieee.{Float, nan, inf, fin, ofBits, div, lt, le, isNan}
-use Rattle.f32s.proofs.Ordered.{lt-not-le, not-lt-le}
-use Rattle.branches.specs.Largest.{mark, largest}
+use lib.Ieee.{ofBits, div}
+use Rattle.f32s.proofs.Ordered.{lt-not-le}
+use Rattle.branches.specs.Largest.{mark}
+use Rattle.branches.proofs.Orders.{not-above}
 use Rattle.branches.proofs.largest.standing.Statement.{statement}
 use Rattle.branches.proofs.largest.standing.Tie as tie
-
-not-above : (m : Float) → lt mark m ≡ false → nan ≡ cond (largest .reached m) m nan
-unfolding isNan ofBits le
-not-above nan e = refl
-not-above (inf s) e = rw (not-lt-le mark (inf s) refl refl e)
-not-above (fin s m d) e = rw (not-lt-le mark (fin s m d) refl refl e)
 
 returns : tie.Need-returns
 returns c = rw (lt-not-le mark (c .before .args .m) (c .if1 .taken))
