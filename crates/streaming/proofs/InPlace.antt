@@ -4,7 +4,6 @@
 --     back                that lifetime ends: the history is there again as the call left it, and the record's cell is whole
 --     closed              the borrow is closed at the record's new front and history
 --     brought, told       what a call gives, taken apart: its result, the last values, what it ensures; and a struct that it gives, at its own machine value
---     hears-both, says-both   an `ensures` of two clauses, a call's and the function's own
 --     alone               what a call asks that takes one value and no reference
 --     local, freed        a local is read; and freed
 -- As a field an array stands at `map` of the identity over its list, and behind a reference at the list itself: `map-id` goes between the two here, so that no walk meets it.
@@ -45,11 +44,6 @@ use denote.Triple.Clauses.{Ended, Clauses, Lasts, atExit, lasts, closing}
 use denote.Triple.Entry.{Res, alive}
 use denote.Triple.Spec.{tripleOf}
 use denote.Triple.Walked.{says}
-use Rattle.refusal.specs.Lent.{leaves}
-use Rattle.trellis.specs.Choice.{k5}
-use Rattle.streaming.specs.Flush.{flushGives}
-use Rattle.streaming.specs.Said.{flushSaid}
-use Rattle.streaming.specs.Held.{held, lag}
 use Rattle.streaming.specs.declared.Front.{Front}
 use Rattle.streaming.specs.declared.StreamingViterbi.{StreamingViterbi}
 use Rattle.streaming.proofs.Front as front
@@ -196,17 +190,7 @@ module _ {M : Type 1} {𝓤 : URA M} {H : Heap 𝓤} {A : Atoms 𝓤} {K : Type 
       move t (1 ∷ []) $ use1 W (raw (whole-with 𝓤 H A b o f (of-history h))) (allE 𝓤 (whole-with 𝓤 H A b o f) (of-history h)) $ move t (1 ∷ 0 ∷ []) $
       use2 W (‵ (record-cell b o f h)) (apply∗ 𝓤 (sem 𝓤 H A (history-cell b o h)) (sem 𝓤 H A (record-cell b o f h))) $ move t (0 ∷ 2 ∷ 1 ∷ []) $ k is))
 
--- what a flush is said to leave in the output
-abbrev pub Left : StreamingViterbi → List ℕ → List ℕ → Type 0
-Left d bytes last = last ≡ leaves (flushSaid k5 lag (held d) (length bytes)) (flushGives k5 lag (held d) lag) bytes
-
 module _ {M : Type 1} {𝓤 : URA M} {H : Heap 𝓤} {A : Atoms 𝓤} {K : Type 0} {W : Given 𝓤 H A} {Γ : List (Item 𝓤)} where
-  pub hears-both : {G : Goal 𝓤 H} → K → (φ ψ : Type 0) → (φ → ψ → Seq K W Γ G) → Seq K W (raw (sep 𝓤 (fact 𝓤 φ) (fact 𝓤 ψ)) ∷ Γ) G
-  hears-both t φ ψ k = use1 W (raw (fact 𝓤 φ) ⊛ raw (fact 𝓤 ψ)) (id⊢ 𝓤 _) $ split t $ heard t φ (λ x. heard t ψ (λ y. k x y))
-
-  pub says-both : K → {φ ψ : Type 0} {P : SProp 𝓤} → φ → ψ → Step K W Γ (prop P) Γ (prop (sep 𝓤 P (sep 𝓤 (fact 𝓤 φ) (fact 𝓤 ψ))))
-  says-both t {φ} {ψ} {P} x y = step (λ s. suffices t (sep 𝓤 (sep 𝓤 P (fact 𝓤 φ)) (fact 𝓤 ψ)) (assoc∗ 𝓤 P (fact 𝓤 φ) (fact 𝓤 ψ)) $ says t y $ says t x $ s)
-
   pub alone : {G : Goal 𝓤 H} → K → {P : Fml} → Step K W (raw (sep 𝓤 (sep 𝓤 (emp 𝓤) (sep 𝓤 (sem 𝓤 H A P) (emp 𝓤))) (emp 𝓤)) ∷ Γ) G (‵ P ∷ Γ) G
   alone t = step (λ s. nothing t $ move t (1 ∷ 0 ∷ []) $ fjoin t $ nothing t $ fjoin t $ nothing t $ move t (1 ∷ 0 ∷ []) $ use2 W (raw _) (id⊢ 𝓤 _) $ s)
 

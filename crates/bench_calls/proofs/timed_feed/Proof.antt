@@ -1,4 +1,4 @@
--- `bench_calls::timed_feed` meets its contract: a walk of its MIR, by hand. The decoder is passed on to `streaming::feed` at its own lifetime, share and name, so that of it only the last value is had at exit; the answer goes to `heard_number`.
+-- `bench_calls::timed_feed` meets its contract: a walk of its MIR, by hand. The decoder is passed on to `streaming::feed` at its own lifetime, share and name, so that of it only the last value is had at exit; the answer goes to `emitted_number`.
 -- What the walk knows of the two is their contracts alone. Assumes nothing.
 use mathlib.Core.Path.{_≡_, refl, ap, _∙_}
 use mathlib.Core.Bool.{true}
@@ -33,20 +33,22 @@ use denote.Triple.Call.{calls-at}
 use denote.Triple.Table.{entered, cited}
 use denote.Triple.Walked.{says, Stays, gave-ref, stay-dropped, walkOf, goes-gave-ref, goes-dropped, ends-at, walked, walk-meets}
 use denote.Exit.{yes}
-use Rattle.streaming.specs.Held.{FeedsIn, heardSaid}
+use Rattle.streaming.specs.Decoder.{held}
+use Rattle.streaming.specs.Promise.{Feeds}
+use Rattle.streaming.specs.Said.{emittedSaid, Emits}
 use Rattle.streaming.specs.declared.StreamingViterbi.{StreamingViterbi}
-use Rattle.streaming.specs.declared.Heard.{Heard}
+use Rattle.streaming.specs.declared.Emitted.{Emitted}
 use Rattle.streaming.proofs.InPlace.{to-decoder, brought, alone, local, freed}
 use Rattle.streaming.proofs.StreamingViterbi as decoder
-use Rattle.streaming.proofs.Heard as heard-type
-use Rattle.streaming.proofs.Heard.Laws as heard-laws
+use Rattle.streaming.proofs.Emitted as emitted-type
+use Rattle.streaming.proofs.Emitted.Laws as emitted-laws
 use Rattle.streaming.proofs.feed as feed
 use Rattle.streaming.proofs.feed.Symbol as feed-def
 use Rattle.streaming.proofs.feed.Met as feed-thm
-use Rattle.bench_calls.specs.Number.{heardNumber}
-use Rattle.bench_calls.proofs.heard_number as number
-use Rattle.bench_calls.proofs.heard_number.Symbol as number-def
-use Rattle.bench_calls.proofs.heard_number.Met as number-thm
+use Rattle.bench_calls.specs.Number.{emittedNumber, EmitNumbers}
+use Rattle.bench_calls.proofs.emitted_number as number
+use Rattle.bench_calls.proofs.emitted_number.Symbol as number-def
+use Rattle.bench_calls.proofs.emitted_number.Met as number-thm
 use Rattle.bench_calls.proofs.timed_feed as door
 use Rattle.bench_calls.proofs.timed_feed.Key as key
 use Rattle.bench_calls.proofs.timed_feed.Statement.{statement}
@@ -69,8 +71,8 @@ module _ {M : Type 1} (𝓤 : URA M) (H : Heap 𝓤) (A : Atoms 𝓤) (W : Given
     abbrev bound : Feeding .Ghost
     bound = (((κ, tt), (q, tt), tt, (to-decoder b o γ d, (re, (im, tt))), (vptr b o ∷ [], (vfloat binary32 re ∷ [], (vfloat binary32 im ∷ [], tt)))), tt)
 
-    -- what `heard_number`'s binds
-    abbrev to-number : Heard → Val → Numbering .Ghost
+    -- what `emitted_number`'s binds
+    abbrev to-number : Emitted → Val → Numbering .Ghost
     to-number answer v = ((tt, tt, tt, (answer, tt), (v ∷ [], tt)), tt)
 
     module _ (C : Calls 𝓤 H) (Λ : Loops 𝓤 H) (fm : FmC 𝓤 H (W .laws) C) (feeds : Triple 𝓤 (C feed-def.name) Feeding) (numbers : Triple 𝓤 (C number-def.name) Numbering) where
@@ -82,16 +84,16 @@ module _ {M : Type 1} (𝓤 : URA M) (H : Heap 𝓤) (A : Atoms 𝓤) (W : Given
           assigns ! (addr ! (from ! (hop ! (look ! 8 refl) (stop !)))) (from ! (stop !)) (init ! 0 refl (tt, tt)) $ move ! (12 ∷ []) $
           -- [what `feed` asks; _5; …; room for _4; …; _3; …; _2; …; _1; …; room for _0; …]
           calls-at ! fm Feeding feeds bound (and-then ! (local ! 1 refl) (and-then ! (local ! 7 refl) (and-then ! (local ! 5 refl) (no-more !)))) (λ v. brought ! tt feed.ended (feed.clauses 𝓤 H A at-mem run) bound v (λ r ws.
-          heard ! (FeedsIn d re im r (ws .0)) (λ said. peeks ! heard-type.the-row (Is heard-type.the-row) (shows 𝓤 H A heard-type.the-row) r (v ∷ []) (λ is.
+          heard ! (Feeds (Emits r) (held d) (held (ws .0)) re im) (λ said. peeks ! emitted-type.the-row (Is emitted-type.the-row) (shows 𝓤 H A emitted-type.the-row) r (v ∷ []) (λ is.
           -- [the answer; the token; the decoder's last value; _5; …; room for _4; …]
-          land ! (from ! (stop !)) (init ! 5 refl (EL.lawful heard-type.the-type heard-laws.the-laws 𝓤 H A W tt .typed r _ is .0)) $
+          land ! (from ! (stop !)) (init ! 5 refl (EL.lawful emitted-type.the-type emitted-laws.the-laws 𝓤 H A W tt .typed r _ is .0)) $
           alone ! $ calls-at ! fm Numbering numbers (to-number r v) (and-then ! (local ! 5 refl) (no-more !)) (λ u. brought ! tt number.ended (number.clauses 𝓤 H A at-mem run) (to-number r v) u (λ n _.
-          heard ! (n ≡ heardNumber (heardSaid r)) (λ numbered. peeks ! u64 (Is u64) (shows 𝓤 H A u64) n (u ∷ []) (λ is-n.
+          heard ! (EmitNumbers n (emittedSaid r)) (λ numbered. peeks ! u64 (Is u64) (shows 𝓤 H A u64) n (u ∷ []) (λ is-n.
           -- [the number; nothing, twice; the token; the decoder's last value; _5; …; _4; …; _3; …; _2; …; _1; …; room for _0; …]
           land ! (from ! (stop !)) (init ! 15 refl (uint-lawful 𝓤 H A W w64 .typed n _ is-n .0)) $
           returns ! (look ! 15 refl) $ move ! (15 ∷ 16 ∷ 13 ∷ 14 ∷ 11 ∷ 12 ∷ 9 ∷ 10 ∷ 7 ∷ 8 ∷ 5 ∷ 6 ∷ []) $ freed ! $ freed ! $ freed ! $ freed ! $ freed ! $ freed ! $ free0 ! $ keep ! (3 ∷ 4 ∷ 0 ∷ []) $
           suffices ! _ (ends-at 𝓤 H A door.ended stays (door.clauses 𝓤 H A at-mem run) W bound u n ws (tt, (tt, (tt, tt)))) $
-          says ! (record { answer = numbered ∙ ap heardNumber (said .answer); state = said .state }) $ done !))))))))))))))
+          says ! (record { answer = numbered ∙ ap emittedNumber (said .answer); state = said .state }) $ done !))))))))))))))
 
   meets : (𝓣 : Tables 𝓤 H) → Triple 𝓤 (𝓣 .C feed-def.name) Feeding → Triple 𝓤 (𝓣 .C number-def.name) Numbering → Meets 𝓤 H A door.signature (WpFn 𝓤 H (𝓣 .C) (𝓣 .Λ) code.function) (door.spec 𝓤 H A at-mem run)
   meets 𝓣 feeds numbers =
@@ -108,4 +110,4 @@ timed-feed-spec 𝓤 H 𝓜 𝓖 𝓡 =
     entered 𝓤 H (tripleOf 𝓤 H (𝓖 .A) door.signature (door.spec 𝓤 H (𝓖 .A) (𝓜 .mem) (𝓡 .run))) (tables 𝓤 H 𝓜 𝓡 code.env .C) (tables 𝓤 H 𝓜 𝓡 code.env .Λ) key.name code.function (code.unfolded 𝓤 H 𝓜 𝓡)
     (meets 𝓤 H (𝓖 .A) W (𝓜 .mem) (𝓡 .run) (tablesOf 𝓤 H 𝓜 (tables 𝓤 H 𝓜 𝓡 code.env))
     (cited 𝓤 H (Feeding 𝓤 H (𝓖 .A) W (𝓜 .mem) (𝓡 .run)) 𝓜 𝓡 code.env feed-def.name feed-def.routine code.calls-streaming·feed (feed-thm.met 𝓤 H 𝓜 𝓖 𝓡))
-    (cited 𝓤 H (Numbering 𝓤 H (𝓖 .A) W (𝓜 .mem) (𝓡 .run)) 𝓜 𝓡 code.env number-def.name number-def.routine code.calls-bench-calls·heard-number (number-thm.met 𝓤 H 𝓜 𝓖 𝓡)))
+    (cited 𝓤 H (Numbering 𝓤 H (𝓖 .A) W (𝓜 .mem) (𝓡 .run)) 𝓜 𝓡 code.env number-def.name number-def.routine code.calls-bench-calls·emitted-number (number-thm.met 𝓤 H 𝓜 𝓖 𝓡)))

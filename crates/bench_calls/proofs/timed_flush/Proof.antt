@@ -32,17 +32,18 @@ use denote.Triple.Spec.{Meets, tripleOf}
 use denote.Triple.Statement.{Contract, Triple}
 use denote.Triple.Call.{calls-at}
 use denote.Triple.Table.{entered, cited}
-use denote.Triple.Walked.{Stays, gave-ref, gave-slice, walkOf, goes-gave-ref, goes-gave-slice, ends-at, walked, walk-meets}
-use Rattle.refusal.specs.Answer.{countSaid, doorNumber}
+use denote.Triple.Walked.{says, Stays, gave-ref, gave-slice, walkOf, goes-gave-ref, goes-gave-slice, ends-at, walked, walk-meets}
+use Rattle.refusal.specs.Answer.{countSaid, doorNumber, Counts, Numbers}
 use Rattle.refusal.specs.declared.Counted.{Counted}
 use Rattle.refusal.proofs.Counted as counted
 use Rattle.refusal.proofs.Counted.Laws as counted-laws
 use Rattle.refusal.proofs.count_number as number
 use Rattle.refusal.proofs.count_number.Symbol as number-def
 use Rattle.refusal.proofs.count_number.Met as number-thm
-use Rattle.streaming.specs.Held.{FlushesIn}
+use Rattle.streaming.specs.Decoder.{held}
+use Rattle.streaming.specs.Promise.{Flushes}
 use Rattle.streaming.specs.declared.StreamingViterbi.{StreamingViterbi}
-use Rattle.streaming.proofs.InPlace.{Left, to-decoder, brought, hears-both, says-both, alone, local, freed}
+use Rattle.streaming.proofs.InPlace.{to-decoder, brought, alone, local, freed}
 use Rattle.streaming.proofs.StreamingViterbi as decoder
 use Rattle.streaming.proofs.flush as flush
 use Rattle.streaming.proofs.flush.Symbol as flush-def
@@ -90,17 +91,17 @@ module _ {M : Type 1} (𝓤 : URA M) (H : Heap 𝓤) (A : Atoms 𝓤) (W : Given
           assigns ! (agg ! (and-then ! (local ! 2 refl) (and-then ! (load ! (from ! (fld ! refl (stop !))) (look-in ! 8 (sub ! 1 refl (whole !)))) (no-more !)))) (from ! (stop !)) (init ! 0 refl (tt, (tt, (record { fits = room .0 }, tt)))) $
           -- [what `flush` asks; _6; …; _5; …; _4; …; room for _3; …; _2; …; _1; …; room for _0; …]
           move ! (14 ∷ []) $ calls-at ! fm Flushing flushes bound (and-then ! (local ! 5 refl) (and-then ! (local ! 1 refl) (no-more !))) (λ v. brought ! tt flush.ended (flush.clauses 𝓤 H A at-mem run) bound v (λ r ws.
-          hears-both ! (FlushesIn d (length bytes) r (ws .0)) (Left d bytes (ws .1 .0)) (λ said written. peeks ! counted.the-row (Is counted.the-row) (shows 𝓤 H A counted.the-row) r (v ∷ []) (λ is.
+          heard ! (Flushes (Counts r) (held d) (held (ws .0)) (record { given = bytes; left = ws .1 .0 })) (λ said. peeks ! counted.the-row (Is counted.the-row) (shows 𝓤 H A counted.the-row) r (v ∷ []) (λ is.
           -- [the answer; the tokens; the last values; _6; …; _5; …; _4; …; room for _3; …]
           land ! (from ! (stop !)) (init ! 9 refl (EL.lawful counted.the-type counted-laws.the-laws 𝓤 H A W tt .typed r _ is .0)) $
           alone ! $ calls-at ! fm Numbering numbers (to-number r v) (and-then ! (local ! 9 refl) (no-more !)) (λ u. brought ! tt number.ended (number.clauses 𝓤 H A at-mem run) (to-number r v) u (λ n _.
-          heard ! (n ≡ doorNumber (countSaid r)) (λ numbered. peeks ! u64 (Is u64) (shows 𝓤 H A u64) n (u ∷ []) (λ is-n.
+          heard ! (Numbers n (countSaid r)) (λ numbered. peeks ! u64 (Is u64) (shows 𝓤 H A u64) n (u ∷ []) (λ is-n.
           -- [the number; nothing, twice; the tokens; the last values; _6; …; _5; …; _4; …; _3; …; _2; …; _1; …; room for _0; …]
           land ! (from ! (stop !)) (init ! 17 refl (uint-lawful 𝓤 H A W w64 .typed n _ is-n .0)) $ returns ! (look ! 17 refl) $
           move ! (17 ∷ 18 ∷ 15 ∷ 16 ∷ 13 ∷ 14 ∷ 11 ∷ 12 ∷ 9 ∷ 10 ∷ 7 ∷ 8 ∷ 5 ∷ 6 ∷ []) $ freed ! $ freed ! $ freed ! $ freed ! $ freed ! $ freed ! $ freed ! $ free0 ! $
           keep ! (4 ∷ 3 ∷ 0 ∷ []) $ fsplit ! $ move ! (1 ∷ []) $ fsplit ! $ fsplit ! $ move ! (1 ∷ []) $ feqL ! (λ same. fjoin ! $ move ! (1 ∷ 0 ∷ []) $ fjoin ! $ move ! (1 ∷ 0 ∷ []) $
           suffices ! _ (ends-at 𝓤 H A door.ended stays (door.clauses 𝓤 H A at-mem run) W bound u n ws (tt, (same, tt))) $
-          says-both ! (record { answer = numbered ∙ ap doorNumber (said .answer); state = said .state }) written $ done !))))))))))))))))
+          says ! (record { writes = record { answer = numbered ∙ ap doorNumber (said .writes .answer); output = said .writes .output }; state = said .state }) $ done !))))))))))))))))
 
   meets : (𝓣 : Tables 𝓤 H) → Triple 𝓤 (𝓣 .C flush-def.name) Flushing → Triple 𝓤 (𝓣 .C number-def.name) Numbering → Meets 𝓤 H A door.signature (WpFn 𝓤 H (𝓣 .C) (𝓣 .Λ) code.function) (door.spec 𝓤 H A at-mem run)
   meets 𝓣 flushes numbers =

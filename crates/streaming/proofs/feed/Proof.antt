@@ -37,15 +37,15 @@ use denote.Triple.Call.{calls-at}
 use denote.Triple.Table.{entered, cited}
 use denote.Triple.Walked.{says, Stays, stay-ref, stay-dropped, walkOf, goes-ref, goes-dropped, ends-at, walked, walk-meets}
 use denote.Exit.{yes}
-use Rattle.streaming.specs.Held.{Steps}
+use Rattle.streaming.specs.Inner.{FeedsLent}
 use Rattle.streaming.specs.declared.StreamingViterbi.{StreamingViterbi}
-use Rattle.streaming.specs.declared.Stepped.{Stepped}
+use Rattle.streaming.specs.declared.FedLent.{FedLent}
 use Rattle.streaming.proofs.InPlace.{IsFront, past-front, of-front, to-decoder, to-history, front-of, front-typed, opened, lent, brought, told, back, closed, local, freed}
 use Rattle.streaming.proofs.StreamingViterbi as decoder
-use Rattle.streaming.proofs.Heard as heard-type
-use Rattle.streaming.proofs.Heard.Laws as heard-laws
-use Rattle.streaming.proofs.Stepped as stepped
-use Rattle.streaming.proofs.Stepped.Laws as stepped-laws
+use Rattle.streaming.proofs.Emitted as emitted-type
+use Rattle.streaming.proofs.Emitted.Laws as emitted-laws
+use Rattle.streaming.proofs.FedLent as fed-lent
+use Rattle.streaming.proofs.FedLent.Laws as fed-lent-laws
 use Rattle.streaming.proofs.feed_lent as callee
 use Rattle.streaming.proofs.feed_lent.Symbol as callee-def
 use Rattle.streaming.proofs.feed_lent.Met as callee-thm
@@ -59,17 +59,17 @@ abbrev stays : Stays (feed.ended .signature .params) (feed.ended .kept)
 stays = (stay-ref (0 ∷ []) tt (plain (λ _. decoder.the-row)), (stay-dropped (plain (λ _. f32)) yes, (stay-dropped (plain (λ _. f32)) yes, tt)))
 
 -- the answer in what `feed_lent` returns: its machine value, and that it is one; and the front there
-abbrev of-answer : Stepped → Val
-of-answer r = EL.val heard-type.the-type heard-laws.the-laws (r .answer)
+abbrev of-answer : FedLent → Val
+of-answer r = EL.val emitted-type.the-type emitted-laws.the-laws (r .answer)
 
-abbrev IsStepped : Stepped → Type 0
-IsStepped r = Is stepped.the-row r (LL.vals stepped.the-type stepped-laws.the-laws r)
+abbrev IsFedLent : FedLent → Type 0
+IsFedLent r = Is fed-lent.the-row r (LL.vals fed-lent.the-type fed-lent-laws.the-laws r)
 
-answer-in : (r : Stepped) → IsStepped r → Is heard-type.the-row (r .answer) (of-answer r ∷ [])
-answer-in r is = LL.owed stepped.the-type stepped-laws.the-laws r _ is .0
+answer-in : (r : FedLent) → IsFedLent r → Is emitted-type.the-row (r .answer) (of-answer r ∷ [])
+answer-in r is = LL.owed fed-lent.the-type fed-lent-laws.the-laws r _ is .0
 
-front-in : (r : Stepped) → IsStepped r → IsFront (r .front)
-front-in r is = LL.owed stepped.the-type stepped-laws.the-laws r _ is .1 .0
+front-in : (r : FedLent) → IsFedLent r → IsFront (r .front)
+front-in r is = LL.owed fed-lent.the-type fed-lent-laws.the-laws r _ is .1 .0
 
 module _ {M : Type 1} (𝓤 : URA M) (H : Heap 𝓤) (A : Atoms 𝓤) (W : Given 𝓤 H A) (at-mem : Memory → SProp 𝓤) (run : Routine → Fun 𝓤) where
   -- the contract that the proof cites
@@ -100,18 +100,18 @@ module _ {M : Type 1} (𝓤 : URA M) (H : Heap 𝓤) (A : Atoms 𝓤) (W : Given
           move ! (0 ∷ 16 ∷ 17 ∷ []) $ lent ! tt b o d was (λ α δ.
           -- [what `feed_lent` asks; what is kept; the open borrow; _6; …; _5; …; and so on to _0; …]
           calls-at ! fm Cited known (to-callee α δ) (and-then ! (local ! 5 refl) (and-then ! (local ! 3 refl) (and-then ! (local ! 11 refl) (and-then ! (local ! 9 refl) (no-more !))))) (λ v.
-          brought ! tt callee.ended (callee.clauses 𝓤 H A at-mem run) (to-callee α δ) v (λ r ws. heard ! (Steps (d .front) (d .history) re im r (ws .1 .0)) (λ said. told ! stepped.the-type stepped-laws.the-laws r v (λ is.
+          brought ! tt callee.ended (callee.clauses 𝓤 H A at-mem run) (to-callee α δ) v (λ r ws. heard ! (FeedsLent (d .front) re im r (record { given = d .history; left = ws .1 .0 })) (λ said. told ! fed-lent.the-type fed-lent-laws.the-laws r v (λ is.
           back ! tt b o (d .front) (ws .1 .0) α δ (emp 𝓤) (λ is-history.
           -- [the record; no other token; nothing more; the open borrow; _6; …; _5; …; room for _4; …; and so on]
-          land ! (from ! (stop !)) (init ! 8 refl (LL.lawful stepped.the-type stepped-laws.the-laws 𝓤 H A W .typed r _ is .0)) $
+          land ! (from ! (stop !)) (init ! 8 refl (LL.lawful fed-lent.the-type fed-lent-laws.the-laws 𝓤 H A W .typed r _ is .0)) $
           assigns ! (of-opd ! (load ! (from ! (fld ! refl (stop !))) (look-in ! 8 (sub ! 1 refl (whole !))))) (from ! (hop ! (look ! 14 refl) (fld ! refl (stop !)))) (store-in ! 0 (sub ! 0 refl (whole !)) (front-typed 𝓤 H A W (r .front) (front-in r is))) $
-          assigns ! (of-opd ! (load ! (from ! (fld ! refl (stop !))) (look-in ! 8 (sub ! 0 refl (whole !))))) (from ! (stop !)) (init ! 16 refl (EL.lawful heard-type.the-type heard-laws.the-laws 𝓤 H A W tt .typed (r .answer) _ (answer-in r is) .0)) $
+          assigns ! (of-opd ! (load ! (from ! (fld ! refl (stop !))) (look-in ! 8 (sub ! 0 refl (whole !))))) (from ! (stop !)) (init ! 16 refl (EL.lawful emitted-type.the-type emitted-laws.the-laws 𝓤 H A W tt .typed (r .answer) _ (answer-in r is) .0)) $
           move ! (0 ∷ 3 ∷ []) $ closed ! tt b o d (r .front) (ws .1 .0) (front-in r is) is-history $
           -- [the decoder's reference; its token; no other; nothing more; _6; …; _5; …; _4; …; _3; …; _2; …; _1; …; _0; …]
           returns ! (look ! 16 refl) $ move ! (16 ∷ 17 ∷ 14 ∷ 15 ∷ 12 ∷ 13 ∷ 10 ∷ 11 ∷ 8 ∷ 9 ∷ 6 ∷ 7 ∷ 4 ∷ 5 ∷ []) $ freed ! $ freed ! $ freed ! $ freed ! $ freed ! $ freed ! $ freed ! $ free0 ! $
           suffices ! _ (ends-at 𝓤 H A feed.ended stays (feed.clauses 𝓤 H A at-mem run) W bound (of-answer r) (r .answer) (record { front = r .front; history = ws .1 .0 }, (tt, (tt, tt))) (tt, (tt, (tt, tt)))) $
-          says ! (record { answer = said .answer; state = said .state }) $ move ! (1 ∷ 2 ∷ []) $ join ! $ frame ! $ fjoin ! $
-          owned ! heard-type.the-row (Is heard-type.the-row) (EL.makes heard-type.the-type heard-laws.the-plain 𝓤 H A) (r .answer) _ (answer-in r is) $ move ! (1 ∷ 0 ∷ []) $ done !))))))))))))))
+          says ! said $ move ! (1 ∷ 2 ∷ []) $ join ! $ frame ! $ fjoin ! $
+          owned ! emitted-type.the-row (Is emitted-type.the-row) (EL.makes emitted-type.the-type emitted-laws.the-plain 𝓤 H A) (r .answer) _ (answer-in r is) $ move ! (1 ∷ 0 ∷ []) $ done !))))))))))))))
 
   meets : (𝓣 : Tables 𝓤 H) → Triple 𝓤 (𝓣 .C callee-def.name) Cited → Meets 𝓤 H A feed.signature (WpFn 𝓤 H (𝓣 .C) (𝓣 .Λ) code.function) (feed.spec 𝓤 H A at-mem run)
   meets 𝓣 known =

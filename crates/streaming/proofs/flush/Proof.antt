@@ -27,7 +27,7 @@ use denote.Builtin.{u8}
 use denote.Ref.{RefT, MutRef, ptr-vals, mut-tells}
 use denote.Slice.{sliceVal, MutSlice, Room, slice-vals, mut-slice-tells}
 use denote.Signature.{plain}
-use denote.Steps.{owned}
+use denote.Steps.{owned, heard}
 use denote.Struct.Laws as LL
 use denote.Enum.Laws as EL
 use denote.Triple.Entry.{onEntry}
@@ -35,16 +35,16 @@ use denote.Triple.Spec.{Meets, tripleOf}
 use denote.Triple.Statement.{Contract, Triple}
 use denote.Triple.Call.{calls-at}
 use denote.Triple.Table.{entered, cited}
-use denote.Triple.Walked.{Stays, stay-ref, gave-slice, walkOf, goes-ref, goes-gave-slice, ends-at, walked, walk-meets}
+use denote.Triple.Walked.{says, Stays, stay-ref, gave-slice, walkOf, goes-ref, goes-gave-slice, ends-at, walked, walk-meets}
 use Rattle.refusal.proofs.Counted as counted
 use Rattle.refusal.proofs.Counted.Laws as counted-laws
-use Rattle.streaming.specs.Held.{Drains}
+use Rattle.streaming.specs.Inner.{FlushesLent}
 use Rattle.streaming.specs.declared.StreamingViterbi.{StreamingViterbi}
-use Rattle.streaming.specs.declared.Drained.{Drained}
-use Rattle.streaming.proofs.InPlace.{IsFront, Left, past-front, of-front, to-decoder, to-history, front-of, front-typed, opened, lent, brought, told, back, closed, hears-both, says-both, local, freed}
+use Rattle.streaming.specs.declared.FlushedLent.{FlushedLent}
+use Rattle.streaming.proofs.InPlace.{IsFront, past-front, of-front, to-decoder, to-history, front-of, front-typed, opened, lent, brought, told, back, closed, local, freed}
 use Rattle.streaming.proofs.StreamingViterbi as decoder
-use Rattle.streaming.proofs.Drained as drained
-use Rattle.streaming.proofs.Drained.Laws as drained-laws
+use Rattle.streaming.proofs.FlushedLent as flushed-lent
+use Rattle.streaming.proofs.FlushedLent.Laws as flushed-lent-laws
 use Rattle.streaming.proofs.flush_lent as callee
 use Rattle.streaming.proofs.flush_lent.Symbol as callee-def
 use Rattle.streaming.proofs.flush_lent.Met as callee-thm
@@ -58,17 +58,17 @@ abbrev stays : Stays (flush.ended .signature .params) (flush.ended .kept)
 stays = (stay-ref (0 ∷ []) tt (plain (λ _. decoder.the-row)), (gave-slice (1 ∷ []) tt (plain (λ _. u8)), tt))
 
 -- the answer in what `flush_lent` returns: its machine value, and that it is one; and the front there
-abbrev of-answer : Drained → Val
+abbrev of-answer : FlushedLent → Val
 of-answer r = EL.val counted.the-type counted-laws.the-laws (r .answer)
 
-abbrev IsDrained : Drained → Type 0
-IsDrained r = Is drained.the-row r (LL.vals drained.the-type drained-laws.the-laws r)
+abbrev IsFlushedLent : FlushedLent → Type 0
+IsFlushedLent r = Is flushed-lent.the-row r (LL.vals flushed-lent.the-type flushed-lent-laws.the-laws r)
 
-answer-in : (r : Drained) → IsDrained r → Is counted.the-row (r .answer) (of-answer r ∷ [])
-answer-in r is = LL.owed drained.the-type drained-laws.the-laws r _ is .0
+answer-in : (r : FlushedLent) → IsFlushedLent r → Is counted.the-row (r .answer) (of-answer r ∷ [])
+answer-in r is = LL.owed flushed-lent.the-type flushed-lent-laws.the-laws r _ is .0
 
-front-in : (r : Drained) → IsDrained r → IsFront (r .front)
-front-in r is = LL.owed drained.the-type drained-laws.the-laws r _ is .1 .0
+front-in : (r : FlushedLent) → IsFlushedLent r → IsFront (r .front)
+front-in r is = LL.owed flushed-lent.the-type flushed-lent-laws.the-laws r _ is .1 .0
 
 module _ {M : Type 1} (𝓤 : URA M) (H : Heap 𝓤) (A : Atoms 𝓤) (W : Given 𝓤 H A) (at-mem : Memory → SProp 𝓤) (run : Routine → Fun 𝓤) where
   -- the contract that the proof cites
@@ -107,10 +107,10 @@ module _ {M : Type 1} (𝓤 : URA M) (H : Heap 𝓤) (A : Atoms 𝓤) (W : Given
           -- [what `flush_lent` asks; what is kept; the open borrow; _7; …; _6; …; and so on to _0; …]
           calls-at ! fm Cited known (to-callee α δ) (and-then ! (local ! 9 refl) (and-then ! (local ! 7 refl) (and-then ! (local ! 3 refl) (no-more !)))) (λ v.
           brought ! tt callee.ended (callee.clauses 𝓤 H A at-mem run) (to-callee α δ) v (λ r ws.
-          hears-both ! (Drains (d .front) (d .history) (length bytes) r (ws .1 .0)) (Left d bytes (ws .1 .1 .0)) (λ said written. told ! drained.the-type drained-laws.the-laws r v (λ is.
+          heard ! (FlushesLent (d .front) r (record { given = d .history; left = ws .1 .0 }) (record { given = bytes; left = ws .1 .1 .0 })) (λ said. told ! flushed-lent.the-type flushed-lent-laws.the-laws r v (λ is.
           back ! tt b o (d .front) (ws .1 .0) α δ (sep 𝓤 (A .lft κ′ q′) (emp 𝓤)) (λ is-history.
           -- [the record; the output's token; its last list; the open borrow; _7; …; _6; …; _5; …; _4; …; room for _3; …; and so on]
-          land ! (from ! (stop !)) (init ! 12 refl (LL.lawful drained.the-type drained-laws.the-laws 𝓤 H A W .typed r _ is .0)) $
+          land ! (from ! (stop !)) (init ! 12 refl (LL.lawful flushed-lent.the-type flushed-lent-laws.the-laws 𝓤 H A W .typed r _ is .0)) $
           assigns ! (of-opd ! (load ! (from ! (fld ! refl (stop !))) (look-in ! 12 (sub ! 1 refl (whole !))))) (from ! (hop ! (look ! 16 refl) (fld ! refl (stop !)))) (store-in ! 0 (sub ! 0 refl (whole !)) (front-typed 𝓤 H A W (r .front) (front-in r is))) $
           assigns ! (of-opd ! (load ! (from ! (fld ! refl (stop !))) (look-in ! 12 (sub ! 0 refl (whole !))))) (from ! (stop !)) (init ! 18 refl (EL.lawful counted.the-type counted-laws.the-laws 𝓤 H A W tt .typed (r .answer) _ (answer-in r is) .0)) $
           move ! (0 ∷ 3 ∷ []) $ closed ! tt b o d (r .front) (ws .1 .0) (front-in r is) is-history $
@@ -118,7 +118,7 @@ module _ {M : Type 1} (𝓤 : URA M) (H : Heap 𝓤) (A : Atoms 𝓤) (W : Given
           returns ! (look ! 18 refl) $ move ! (18 ∷ 19 ∷ 16 ∷ 17 ∷ 14 ∷ 15 ∷ 12 ∷ 13 ∷ 10 ∷ 11 ∷ 8 ∷ 9 ∷ 6 ∷ 7 ∷ 4 ∷ 5 ∷ []) $ freed ! $ freed ! $ freed ! $ freed ! $ freed ! $ freed ! $ freed ! $ freed ! $ free0 ! $
           move ! (3 ∷ []) $ fsplit ! $ fsplit ! $ move ! (1 ∷ []) $ feqL ! (λ same. fjoin ! $ move ! (1 ∷ 2 ∷ 3 ∷ []) $
           suffices ! _ (ends-at 𝓤 H A flush.ended stays (flush.clauses 𝓤 H A at-mem run) W bound (of-answer r) (r .answer) (record { front = r .front; history = ws .1 .0 }, (ws .1 .1 .0, tt)) (tt, (same, tt))) $
-          says-both ! (record { answer = said .answer; state = said .state }) written $ move ! (1 ∷ 2 ∷ []) $ join ! $ frame ! $ fjoin ! $
+          says ! said $ move ! (1 ∷ 2 ∷ []) $ join ! $ frame ! $ fjoin ! $
           owned ! counted.the-row (Is counted.the-row) (EL.makes counted.the-type counted-laws.the-plain 𝓤 H A) (r .answer) _ (answer-in r is) $ move ! (1 ∷ 0 ∷ []) $ done !))))))))))))))))
 
   meets : (𝓣 : Tables 𝓤 H) → Triple 𝓤 (𝓣 .C callee-def.name) Cited → Meets 𝓤 H A flush.signature (WpFn 𝓤 H (𝓣 .C) (𝓣 .Λ) code.function) (flush.spec 𝓤 H A at-mem run)
