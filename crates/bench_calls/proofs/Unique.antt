@@ -2,7 +2,7 @@
 -- what the call is given, what it returns, and what it leaves in each argument. The two in place are walks by hand, of which
 -- the prover reads no `Post`: their laws are over the records that their contracts cite. Assumes nothing.
 use mathlib.Core.List.{List}
-use mathlib.Core.Path.{_≡_, sym, _∙_}
+use mathlib.Core.Path.{sym, _∙_}
 use Prim.Native.Nat.{ℕ}
 use lib.Ieee.{Float}
 use Rattle.refusal.specs.Answer.{Numbers}

@@ -1,5 +1,5 @@
--- What the functions promise that no entry does. `Answers` is how the caller reads the answer (`Counts r` or `Numbers r`),
--- `out` the lent buffer. Definitions only.
+-- What the functions promise that no entry does. `Answers` is how the caller reads the answer (`Counts r` or
+-- `Numbers r`), `out` the lent buffer. Definitions only.
 use mathlib.Core.List.{List}
 use Prim.Native.Nat.{ℕ}
 use lib.Ieee.{Float}

@@ -20,7 +20,7 @@ use Rattle.branches.specs.Smallest.{mark, smallest}
 use Rattle.symbols.specs.Costs.{started}
 use Rattle.symbols.proofs.Bounds.{MarkOrUpTo, up-to-below, reached-up-to, started-bounded}
 use Rattle.trellis.specs.declared.ConvCode.{ConvCode}
-use Rattle.streaming.specs.Stream.{State, turns, stepped, newMets, normalised, normalisedAt, fresh, fed}
+use Rattle.streaming.specs.Stream.{State, turns, stepped, newMets, normalised, fresh, fed}
 use Rattle.streaming.specs.Run.{Symbol, after}
 use Rattle.streaming.specs.Life.{Good, AllGood, afterFresh, metricBound}
 use Rattle.streaming.proofs.Counters.{turn-after}

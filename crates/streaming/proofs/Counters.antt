@@ -14,7 +14,7 @@ use Rattle.trellis.specs.declared.ConvCode.{ConvCode}
 use Rattle.streaming.specs.Stream.{State, turns, fresh, fed, given, bitBehind}
 use Rattle.streaming.specs.Run.{Symbol, nought, after, runGives, flushed, flushGives}
 use Rattle.streaming.specs.Life.{afterFresh}
-use Rattle.streaming.proofs.Running.{after-both}
+use Rattle.streaming.proofs.Running.{after-both, flush-is-run, flush-gives-run}
 
 module _ (code : ConvCode) (lag : ℕ) where
   -- a count within its range is read as it is
@@ -86,9 +86,10 @@ module _ (code : ConvCode) (lag : ℕ) where
         (run-gives ys)
 
     pub flush-after : flushed code lag st ≡ afterFresh code lag (replicate lag nought ++ xs)
-    unfolding flushed
-    flush-after = after-both code lag (fresh code lag) xs (replicate lag nought)
+    flush-after = sym (flush-is-run code lag st) ∙ after-both code lag (fresh code lag) xs (replicate lag nought)
 
     pub flush-gives-after : length (flushGives code lag st) ≡ min (length xs) lag
-    unfolding flushGives
-    flush-gives-after = run-gives (replicate lag nought) ∙ omega (arith, length-replicate lag nought)
+    flush-gives-after =
+        ap length (sym (flush-gives-run code lag st))
+        ∙ run-gives (replicate lag nought)
+        ∙ omega (arith, length-replicate lag nought)

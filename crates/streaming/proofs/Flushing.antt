@@ -1,7 +1,7 @@
 -- A flush, symbol by symbol, and its answers. Assumes nothing.
-use mathlib.Core.List.{List, [], _∷_, _++_, append-nil}
+use mathlib.Core.List.{List, _∷_, append-nil}
 use mathlib.Core.Path.{_≡_, refl, sym, ap, subst, _∙_}
-use Prim.Native.Nat.{ℕ, suc, _+_, _≤_, _<_}
+use Prim.Native.Nat.{ℕ, _+_, _≤_, _<_}
 use native.Mathlib.Nat.{le-antisymm}
 use native.Mathlib.Numerals.{add-one}
 use native.Mathlib.Omega.{arith}
@@ -12,7 +12,7 @@ use Rattle.best_path.proofs.Candidates.{where-true, where-false}
 use Rattle.f32s.specs.Single.{zero32}
 use Rattle.refusal.specs.declared.Counted.{Counted}
 use Rattle.refusal.specs.declared.Counted.the-variants as counted
-use Rattle.refusal.specs.Answer.{Said, accepted, refused, Counts}
+use Rattle.refusal.specs.Answer.{accepted, refused, Counts}
 use Rattle.refusal.specs.Lent.{Lent}
 use Rattle.refusal.proofs.Filling.{Written, as-before, one-more, written-inside}
 use Rattle.refusal.proofs.Over.{writes-refused, writes-accepted}
@@ -21,12 +21,12 @@ use Rattle.trellis.specs.Choice.{k5}
 use Rattle.trellis.specs.declared.ConvCode.{ConvCode}
 use Rattle.streaming.specs.declared.Front.{Front}
 use Rattle.streaming.specs.Stream.{State, bitBehind}
-use Rattle.streaming.specs.Run.{Symbol, nought, after, runGives, flushed, flushGives}
+use Rattle.streaming.specs.Run.{nought, after, runGives, flushed, flushGives}
 use Rattle.streaming.specs.Said.{flushSaid, flushLeaves}
 use Rattle.streaming.specs.Decoder.{lag, stateOf}
 use Rattle.streaming.specs.Inner.{Advances, FlushesLent}
 use Rattle.streaming.proofs.OneSymbol.{none-given, one-given}
-use Rattle.streaming.proofs.Running.{Ran, ran-none, ran-more}
+use Rattle.streaming.proofs.Running.{Ran, ran-none, ran-more, flush-is-run, flush-gives-run}
 
 -- ---- the answers
 
@@ -44,12 +44,9 @@ module _ (code : ConvCode) (late : ℕ) (st : State) (room : ℕ) where
   accepted-said h = sym (passed-when (ltb room late) 4 _ (le-ltb room late h))
 
   accepted-state : late ≤ room → after code late st (replicate late nought) ≡ flushLeaves code late st room
-  unfolding flushLeaves flushed
-  accepted-state h = where-false (ltb room late) _ (after code late st (replicate late nought)) (le-ltb room late h)
-
-flush-bits : (code : ConvCode) (late : ℕ) (st : State) → runGives code late st (replicate late nought) ≡ flushGives code late st
-unfolding flushGives
-flush-bits code late st = refl
+  unfolding flushLeaves
+  accepted-state h =
+      flush-is-run code late st ∙ where-false (ltb room late) st (flushed code late st) (le-ltb room late h)
 
 pub room-refused :
     {front : Front} {history out : List ℕ} (answer : Counted) → Counts answer (refused 4 0) → length out < lag →
@@ -109,7 +106,9 @@ module _ {front₀ : Front} {history₀ old : List ℕ} {i : ℕ} {front : Front
         (as-before old bits _ i out written (so-far .ran .bits) new count (sym (append-nil bits)) same same-count))
 
     pub flushing-bit :
-        {new : List ℕ} {count : ℕ} (b : ℕ) → lag < next .count → b ≡ bitBehind k5 lag (stateOf next (history .left)) → new ≡ set out written b →
+        {new :
+        List ℕ} {count : ℕ} (b : ℕ) → lag < next .count → b ≡ bitBehind k5 lag (stateOf next (history .left)) →
+        new ≡ set out written b →
         count ≡ written + 1 → Flushing front₀ history₀ old (i + 1) next (history .left) new count
     flushing-bit {new} {count} b due is put one =
         more
@@ -126,7 +125,7 @@ module _ {front₀ : Front} {history₀ old : List ℕ} {i : ℕ} {front : Front
       let state : stateOf front history ≡ after k5 lag st (replicate lag nought) =
       so-far .ran .state ∙ ap (λ (n : ℕ). after k5 lag st (replicate n nought)) end in
       let bits : runGives k5 lag st (replicate i nought) ≡ flushGives k5 lag st =
-      ap (λ (n : ℕ). runGives k5 lag st (replicate n nought)) end ∙ flush-bits k5 lag st in
+      ap (λ (n : ℕ). runGives k5 lag st (replicate n nought)) end ∙ flush-gives-run k5 lag st in
       let w = subst (λ (l : List ℕ). Written old l i out written) bits (so-far .ran .bits) in
       record {
         writes = writes-accepted (accepted-said k5 lag st (length old) (so-far .room)) (ap accepted (w .counted)) (w .filled);

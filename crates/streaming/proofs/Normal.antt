@@ -16,7 +16,7 @@ use Rattle.f32s.specs.Single.{zero32}
 use Rattle.branches.specs.Smallest.{mark}
 use Rattle.trellis.specs.Choice.{k5}
 use Rattle.streaming.specs.declared.Front.{Front}
-use Rattle.streaming.specs.Stream.{turns, leastOf, lowered, normalised, normalisedAt}
+use Rattle.streaming.specs.Stream.{turns, leastOf, lowered, normalised}
 use Rattle.streaming.specs.Inner.{NormalisedAfter}
 
 -- ---- the least metric

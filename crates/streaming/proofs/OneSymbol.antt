@@ -9,7 +9,6 @@ use native.Mathlib.Omega.{arith}
 use borrow.Author.Tests.{lt-ltb, le-ltb}
 use lib.Ieee.{Float}
 use lib.ListN.{drop}
-use Rattle.best_path.proofs.Candidates.{where-false}
 use Rattle.f32s.specs.Single.{within}
 use Rattle.refusal.specs.Answer.{accepted, refused}
 use Rattle.refusal.specs.Lent.{Lent}
@@ -18,9 +17,8 @@ use Rattle.streaming.specs.declared.Emitted.the-variants as emitted
 use Rattle.streaming.specs.declared.FedLent.{FedLent}
 use Rattle.streaming.specs.declared.Front.{Front}
 use Rattle.streaming.specs.Stream.{State, turns, rowsKept, newMets, newFroms, normalisedAt, kept, fed, bitBehind, given}
-use Rattle.streaming.specs.Said.{ofSymbol, feedSaid, feedLeaves, emittedSaid, Emits}
+use Rattle.streaming.specs.Said.{ofSymbol, feedSaid, feedLeaves}
 use Rattle.streaming.specs.Decoder.{lag, stateOf}
-use Rattle.streaming.specs.Promise.{Feeds}
 use Rattle.streaming.specs.Inner.{SelectsNew, NormalisedAfter, Keeps, RefusesAt, Advances, FeedsLent}
 
 -- the row that the code writes to is the one of the symbols so far

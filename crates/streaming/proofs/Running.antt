@@ -5,12 +5,13 @@ use mathlib.Core.List.{List, [], _∷_, _++_, append-nil}
 use mathlib.Core.Path.{_≡_, refl, sym, ap, subst, _∙_}
 use Prim.Native.Nat.{ℕ, _+_}
 use lib.Ieee.{Float}
+use lib.ListN.{replicate}
 use Rattle.f32s.specs.Single.{within}
 use Rattle.refusal.specs.Answer.{Said, accepted, refused}
 use Rattle.refusal.proofs.Filling.{Written, none-written}
 use Rattle.trellis.specs.declared.ConvCode.{ConvCode}
 use Rattle.streaming.specs.Stream.{State, fed, given}
-use Rattle.streaming.specs.Run.{Symbol, after, runGives}
+use Rattle.streaming.specs.Run.{Symbol, nought, after, runGives, flushed, flushGives}
 use Rattle.streaming.specs.Said.{feedSaid, feedLeaves, bitsIn}
 use Rattle.streaming.specs.Life.{joinedBy}
 
@@ -39,6 +40,15 @@ module _ (code : ConvCode) (lag : ℕ) (st : State) where
       runGives code lag st xs ++ given code lag (after code lag st (x ∷ xs)) ≡ runGives code lag st (x ∷ xs)
   unfolding runGives
   gives-next x xs = refl
+
+  -- a flush is as many symbols (0, 0) as the lag
+  pub flush-is-run : after code lag st (replicate lag nought) ≡ flushed code lag st
+  unfolding flushed
+  flush-is-run = refl
+
+  pub flush-gives-run : runGives code lag st (replicate lag nought) ≡ flushGives code lag st
+  unfolding flushGives
+  flush-gives-run = refl
 
 -- The state is that after the symbols xs, and their bits, i at most, stand at the front of what was lent.
 pub record Ran

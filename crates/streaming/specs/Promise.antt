@@ -1,6 +1,6 @@
 -- What the entries promise, by value and in place alike: each contract is one of these. `given` is the decoder's state
--- at entry and `left` the state after the call, `Answers` how the caller reads the answer (`Emits r` or `Counts r` of an
--- entry), `out` the lent buffer. Definitions only.
+-- at entry and `left` the state after the call, `Answers` how the caller reads the answer (`Emits r` or `Counts r`),
+-- `out` the lent buffer. Definitions only.
 use mathlib.Core.List.{List}
 use mathlib.Core.Path.{_≡_}
 use Prim.Native.Nat.{ℕ}

@@ -1,7 +1,8 @@
 -- `streaming::history::keep`: the laws of a turn at what is known there. Assumes nothing.
-use Prim.Native.Nat.{_-_}
+use Prim.Native.Nat.{_-_, _^_}
 use native.Mathlib.Omega.{arith}
 use borrow.Author.Needs.{needs}
+use Rattle.trellis.specs.Choice.{k5}
 use Rattle.streaming.proofs.Kept.{Keeping, keeping-starts, keeping-goes-on, keeping-ends}
 use Rattle.streaming.proofs.history.keep.Statement.{statement}
 use Rattle.streaming.proofs.history.keep.Tie as tie
@@ -10,7 +11,7 @@ abbrev Inv-loop : tie.InvT-loop
 Inv-loop pm froms at history₀ s₀ history s = Keeping pm froms at history₀ s history
 
 abbrev μ-loop : tie.MeasureT-loop
-μ-loop pm froms at history₀ s₀ history s = 16 - s
+μ-loop pm froms at history₀ s₀ history s = 2 ^ k5 .width - s
 
 loop-holds : tie.Need-loop-holds Inv-loop μ-loop
 loop-holds c = search keeping-starts

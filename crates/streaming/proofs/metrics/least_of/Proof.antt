@@ -1,7 +1,8 @@
 -- `streaming::metrics::least_of`: the laws of a turn at what is known there. Assumes nothing.
-use Prim.Native.Nat.{_-_}
+use Prim.Native.Nat.{_-_, _^_}
 use native.Mathlib.Omega.{arith}
 use borrow.Author.Needs.{needs}
+use Rattle.trellis.specs.Choice.{k5}
 use Rattle.streaming.proofs.Normal.{LeastBelow, least-starts, least-goes-on, least-ends}
 use Rattle.streaming.proofs.metrics.least_of.Statement.{statement}
 use Rattle.streaming.proofs.metrics.least_of.Tie as tie
@@ -10,7 +11,7 @@ abbrev Inv-loop : tie.InvT-loop
 Inv-loop pm least₀ s₀ least s = LeastBelow pm s least
 
 abbrev μ-loop : tie.MeasureT-loop
-μ-loop pm least₀ s₀ least s = 16 - s
+μ-loop pm least₀ s₀ least s = 2 ^ k5 .width - s
 
 loop-holds : tie.Need-loop-holds Inv-loop μ-loop
 loop-holds c = least-starts

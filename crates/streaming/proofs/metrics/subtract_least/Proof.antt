@@ -1,7 +1,8 @@
 -- `streaming::metrics::subtract_least`: the laws of a turn at what is known there. Assumes nothing.
-use Prim.Native.Nat.{_-_}
+use Prim.Native.Nat.{_-_, _^_}
 use native.Mathlib.Omega.{arith}
 use borrow.Author.Needs.{needs}
+use Rattle.trellis.specs.Choice.{k5}
 use Rattle.streaming.proofs.Normal.{Lowering, lowering-starts, lowering-goes-on, lowering-ends, none-subtracted}
 use Rattle.streaming.proofs.metrics.subtract_least.Statement.{statement}
 use Rattle.streaming.proofs.metrics.subtract_least.Tie as tie
@@ -10,7 +11,7 @@ abbrev Inv-loop : tie.InvT-loop
 Inv-loop pm₀ least s₀ pm s = Lowering pm₀ least s pm
 
 abbrev μ-loop : tie.MeasureT-loop
-μ-loop pm₀ least s₀ pm s = 16 - s
+μ-loop pm₀ least s₀ pm s = 2 ^ k5 .width - s
 
 loop-holds : tie.Need-loop-holds Inv-loop μ-loop
 loop-holds c = lowering-starts
