@@ -15,8 +15,8 @@ use call_lines::print::write_front;
 use call_lines::shapes::COMPONENTS;
 use refusal::Counted;
 use refusal::count_number;
+use streaming::Emitted;
 use streaming::Front;
-use streaming::Heard;
 use streaming::StreamingViterbi;
 
 // `n`. Prints a fresh record.
@@ -65,7 +65,7 @@ fn feed_all(d: StreamingViterbi, soft: &[f32]) -> StreamingViterbi {
     for i in 0..soft.len() / 2 {
         let fed = decoder.feed_symbol(soft[2 * i], soft[2 * i + 1]);
         let answer = fed.answer;
-        at = put_number(&mut text, at, heard_number(answer));
+        at = put_number(&mut text, at, emitted_number(answer));
         decoder = fed.decoder;
     }
     write_front(&text, at);
@@ -73,11 +73,11 @@ fn feed_all(d: StreamingViterbi, soft: &[f32]) -> StreamingViterbi {
 }
 
 // A bit, 2 for nothing, or a refusal as a door says it.
-fn heard_number(answer: Heard) -> u64 {
+fn emitted_number(answer: Emitted) -> u64 {
     match answer {
-        Heard::Bit(b) => b as u64,
-        Heard::Nothing => 2,
-        Heard::Refused(r) => count_number(Counted::Refused(r)),
+        Emitted::Bit(b) => b as u64,
+        Emitted::Nothing => 2,
+        Emitted::Refused(r) => count_number(Counted::Refused(r)),
     }
 }
 

@@ -1,3 +1,6 @@
--- Stream: what a fresh streaming decoder gives for a list of symbols. Number: what the streaming decoder in place answers, as one number.
+-- Stream: what a fresh streaming decoder gives for a list of symbols. Number: a symbol's answer as one number. Promise:
+-- what the functions promise that no entry does. Inner: what the inner functions ensure.
 pub mod Stream
 pub mod Number
+pub mod Promise
+pub mod Inner

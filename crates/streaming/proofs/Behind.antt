@@ -1,47 +1,84 @@
 -- The way back, one row at a time: what is left to do is what it was at the start. Assumes nothing.
 use mathlib.Core.List.{List}
 use mathlib.Core.Path.{_≡_, refl, sym, ap, subst, _∙_}
-use Prim.Native.Nat.{ℕ, suc, _+_, _-_, _*_, _/_, _%_, _^_, _≤_, _<_}
+use Prim.Native.Nat.{ℕ, suc, _+_, _-_, _*_, _%_, _^_, _≤_, _<_}
+use native.Mathlib.Nat.{mul-comm, mod-lt}
 use native.Mathlib.Omega.{arith}
-use native.Mathlib.Nat.{mul-comm}
 use lib.Dec.{lit<, lit≤}
 use lib.Ieee.{Float}
 use lib.ListN.{getD}
+use Rattle.best_path.specs.Run.{inputInto}
+use Rattle.branches.specs.Smallest.{smallest}
 use Rattle.symbols.specs.Decode.{firstLeast}
 use Rattle.symbols.proofs.Least.{least-below}
 use Rattle.trellis.specs.Choice.{k5}
 use Rattle.trellis.specs.declared.ConvCode.{ConvCode}
 use Rattle.streaming.specs.declared.Front.{Front}
-use Rattle.streaming.specs.Held.{lag, standing}
 use Rattle.streaming.specs.Stream.{State, rowsKept, rowBefore, behind, bitBehind}
+use Rattle.streaming.specs.Decoder.{lag, stateOf}
+use Rattle.streaming.specs.Inner.{InHistory, LiesBehind}
 
-pub behind-none : (states : ℕ) (history : List ℕ) (row s n i : ℕ) → n ≤ i → behind states history row (n - i) s ≡ s
+behind-none : (states : ℕ) (history : List ℕ) (row s n i : ℕ) → n ≤ i → behind states history row (n - i) s ≡ s
 unfolding behind
 behind-none states history row s n i h =
     let none-left : n - i ≡ 0 = omega arith in
     ap (λ (m : ℕ). behind states history row m s) none-left
 
-pub behind-next :
-    (states : ℕ) (history : List ℕ) (row s n i : ℕ) → i < n → (s' : ℕ) → s' ≡ getD history (states * row + s) 0 % states →
-    behind states history (rowBefore row) (n - (i + 1)) s' ≡ behind states history row (n - i) s
+behind-next :
+    (states : ℕ) (history : List ℕ) (row s n i : ℕ) → i < n →
+    behind states history (rowBefore row) (n - (i + 1)) (getD history (states * row + s) 0 % states)
+    ≡ behind states history row (n - i) s
 unfolding behind
-behind-next states history row s n i h s' e =
+behind-next states history row s n i h =
     let one-more : n - i ≡ suc (n - (i + 1)) = omega arith in
-    ap (behind states history (rowBefore row) (n - (i + 1))) (e ∙ ap (λ (at : ℕ). getD history (at + s) 0 % states) (mul-comm states row))
+    ap (λ (at : ℕ). behind states history (rowBefore row) (n - (i + 1)) (getD history (at + s) 0 % states)) (mul-comm states row)
     ∙ sym (ap (λ (m : ℕ). behind states history row m s) one-more)
 
-pub least-is-state : (pm : List Float) (least : ℕ) → least ≡ firstLeast pm 16 → least < 16
-least-is-state pm least e = subst (λ (n : ℕ). n < 16) (sym e) (least-below pm 16 16 (lit< tt) (lit≤ tt))
+-- The invariant after i steps from a row and a state.
+pub record GoingBack (history : List ℕ) (row s i row' s' : ℕ) : Type 0 where
+  pub few : i ≤ lag
+  pub here : InHistory row' s'
+  pub rest : behind (2 ^ k5 .width) history row' (lag - i) s' ≡ behind (2 ^ k5 .width) history row lag s
+
+pub going-back-starts : {history : List ℕ} {row s : ℕ} → InHistory row s → GoingBack history row s 0 row s
+going-back-starts here = record { few = omega arith; here = here; rest = refl }
+
+module _ {history : List ℕ} {row s i row' s' : ℕ} where
+  pub going-back-goes-on :
+      GoingBack history row s i row' s' → i < lag →
+      GoingBack history row s (i + 1) (rowBefore row') (getD history (2 ^ k5 .width * row' + s') 0 % 2 ^ k5 .width)
+  going-back-goes-on so-far h =
+      record {
+        few = omega arith;
+        here = record { row-kept = mod-lt _ (lit< tt); state-known = mod-lt _ (lit< tt) };
+        rest = behind-next (2 ^ k5 .width) history row' s' lag i h ∙ so-far .rest;
+      }
+
+  pub going-back-ends : GoingBack history row s i row' s' → lag ≤ i → LiesBehind history row s s'
+  going-back-ends so-far h =
+      record {
+        lies = sym (behind-none (2 ^ k5 .width) history row' s' lag i h) ∙ so-far .rest;
+        state-known = so-far .here .state-known;
+      }
+
+-- ---- the bit
+
+pub least-is-state : (pm : List Float) {least : ℕ} → least ≡ firstLeast pm (2 ^ k5 .width) → least < 2 ^ k5 .width
+least-is-state pm e =
+    let states = 2 ^ k5 .width in
+    subst (λ (n : ℕ). n < states) (sym e) (least-below pm states states (lit< tt) (lit≤ tt))
 
 -- the definition opened, before code and lag are numbers
 bit-opened :
-    (code : ConvCode) (late : ℕ) (st : State) →
-    behind (2 ^ code .width) (st .history) (rowBefore (st .turn % rowsKept)) late (firstLeast (st .pm) (2 ^ code .width)) / 2 ^ (code .width - 1) ≡ bitBehind code late st
+    (code : ConvCode) (late : ℕ) (st : State) (least : ℕ) → least ≡ firstLeast (st .pm) (2 ^ code .width) →
+    inputInto smallest code (behind (2 ^ code .width) (st .history) (rowBefore (st .turn % rowsKept)) late least) ≡ bitBehind code late st
 unfolding bitBehind
-bit-opened code late st = refl
+bit-opened code late st least e =
+    ap (λ (n : ℕ). inputInto smallest code (behind (2 ^ code .width) (st .history) (rowBefore (st .turn % rowsKept)) late n)) e
 
 pub bit-behind :
-    (front : Front) (history : List ℕ) (least s b : ℕ) → least ≡ firstLeast (front .pm) 16 →
-    s ≡ behind 16 history (rowBefore (front .turn % rowsKept)) lag least → b ≡ s / 8 → b ≡ bitBehind k5 lag (standing front history)
-bit-behind front history least s b e f g =
-    g ∙ ap (λ (n : ℕ). n / 8) (f ∙ ap (behind 16 history (rowBefore (front .turn % rowsKept)) lag) e) ∙ bit-opened k5 lag (standing front history)
+    (front : Front) {history : List ℕ} {least s b : ℕ} → least ≡ firstLeast (front .pm) (2 ^ k5 .width) →
+    LiesBehind history (rowBefore (front .turn % rowsKept)) least s → b ≡ inputInto smallest k5 s →
+    b ≡ bitBehind k5 lag (stateOf front history)
+bit-behind front {history} {least} e found top =
+    top ∙ ap (inputInto smallest k5) (found .lies) ∙ bit-opened k5 lag (stateOf front history) least e

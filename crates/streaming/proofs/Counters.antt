@@ -1,39 +1,38 @@
--- What the counters come to after symbols: how many there were, up to one more than the lag, and modulo 256. So a bit comes once there were
--- more than the lag. A flush is as many symbols (0, 0), and gives a bit for each symbol whose bit was due: as many as there were symbols
--- before, and the lag at most. Assumes nothing.
+-- What the counters come to after symbols: how many there were, up to one more than the lag, and modulo 256. So a bit comes
+-- once there were more than the lag. A flush is as many symbols (0, 0), and gives a bit for each symbol whose bit was due: as
+-- many as there were symbols before, and the lag at most. Assumes nothing.
 use mathlib.Core.Bool.{Bool, true, false, cond}
 use mathlib.Core.List.{List, [], _∷_, _++_}
 use mathlib.Core.Path.{_≡_, refl, sym, ap, _∙_}
-use Prim.Native.Nat.{ℕ, zero, suc, _+_, _-_, _%_, min}
+use Prim.Native.Nat.{ℕ, suc, _+_, _-_, _%_, min}
 use native.Mathlib.Nat.{mod-eq-of-lt, zero-min}
 use native.Mathlib.Omega.{arith}
 use borrow.Author.Tests.{ltb-true, ltb-false, lt-ltb, le-ltb}
 use lib.Dec.{ltb}
 use lib.ListN.{length, replicate, length-append, length-replicate}
-use Rattle.f32s.specs.Single.{zero32}
 use Rattle.trellis.specs.declared.ConvCode.{ConvCode}
-use Rattle.streaming.specs.Stream.{State, fresh, fed, given, bitBehind}
-use Rattle.streaming.specs.Flush.{flushed, flushGives}
-use Rattle.streaming.specs.Life.{Symbol, nought, after}
-use Rattle.streaming.proofs.Draining.{flushed-next}
+use Rattle.streaming.specs.Stream.{State, turns, fresh, fed, given, bitBehind}
+use Rattle.streaming.specs.Run.{Symbol, nought, after, runGives, flushed, flushGives}
+use Rattle.streaming.specs.Life.{afterFresh}
+use Rattle.streaming.proofs.Running.{after-both, flush-is-run, flush-gives-run}
 
 module _ (code : ConvCode) (lag : ℕ) where
   -- a count within its range is read as it is
   counted : (c n : ℕ) → c ≡ min n (suc lag) → min (suc (c % (lag + 2))) (suc lag) ≡ min (suc n) (suc lag)
   counted c n e = ap (λ (r : ℕ). min (suc r) (suc lag)) (mod-eq-of-lt (omega arith)) ∙ omega arith
 
-  pub count-after : (xs : List Symbol) → after code lag xs .count ≡ min (length xs) (suc lag)
+  pub count-after : (xs : List Symbol) → afterFresh code lag xs .count ≡ min (length xs) (suc lag)
   unfolding after fresh fed
   count-after [] = sym (zero-min (suc lag))
-  count-after (x ∷ earlier) = counted (after code lag earlier .count) (length earlier) (count-after earlier)
+  count-after (x ∷ earlier) = counted (afterFresh code lag earlier .count) (length earlier) (count-after earlier)
 
-  turned : (t n : ℕ) → t ≡ n % 256 → suc (t % 256) % 256 ≡ suc n % 256
+  turned : (t n : ℕ) → t ≡ n % turns → suc (t % turns) % turns ≡ suc n % turns
   turned t n e = omega arith
 
-  pub turn-after : (xs : List Symbol) → after code lag xs .turn ≡ length xs % 256
+  pub turn-after : (xs : List Symbol) → afterFresh code lag xs .turn ≡ length xs % turns
   unfolding after fresh fed
   turn-after [] = refl
-  turn-after (x ∷ earlier) = turned (after code lag earlier .turn) (length earlier) (turn-after earlier)
+  turn-after (x ∷ earlier) = turned (afterFresh code lag earlier .turn) (length earlier) (turn-after earlier)
 
   -- the count is above the lag as soon as there were so many symbols
   past-lag : (n : ℕ) → ltb lag (min n (suc lag)) ≡ ltb lag n
@@ -45,41 +44,52 @@ module _ (code : ConvCode) (lag : ℕ) where
 
   -- of the last symbol: nothing up to the lag, then a bit
   pub gives-after :
-      (xs : List Symbol) → given code lag (after code lag xs) ≡ cond (ltb lag (length xs)) (bitBehind code lag (after code lag xs) ∷ []) []
+      (xs : List Symbol) →
+      given code lag (afterFresh code lag xs) ≡ cond (ltb lag (length xs)) (bitBehind code lag (afterFresh code lag xs) ∷ []) []
   unfolding given
   gives-after xs =
-      ap (λ (b : Bool). cond b (bitBehind code lag (after code lag xs) ∷ []) []) (ap (ltb lag) (count-after xs) ∙ past-lag (length xs))
+      ap (λ (b : Bool). cond b (bitBehind code lag (afterFresh code lag xs) ∷ []) [])
+      (ap (ltb lag) (count-after xs) ∙ past-lag (length xs))
 
-  -- ---- a flush
+  -- ---- symbols after symbols, and a flush
 
-  pub flush-after : (xs : List Symbol) (n : ℕ) → flushed code lag (after code lag xs) n ≡ after code lag (replicate n nought ++ xs)
-  unfolding flushed after
-  flush-after xs zero = refl
-  flush-after xs (suc n) = flushed-next code lag (after code lag xs) n ∙ ap (λ (st : State). fed code lag st zero32 zero32) (flush-after xs n)
+  module _ (xs : List Symbol) where
+    abbrev st : State
+    st = afterFresh code lag xs
 
-  flush-count : (xs : List Symbol) (n : ℕ) → flushed code lag (after code lag xs) n .count ≡ min (n + length xs) (suc lag)
-  flush-count xs n =
-      ap (λ (st : State). st .count) (flush-after xs n)
-      ∙ count-after (replicate n nought ++ xs)
-      ∙ ap (λ (k : ℕ). min k (suc lag)) (length-append (replicate n nought) xs ∙ ap (λ (k : ℕ). k + length xs) (length-replicate n nought))
+    count-more : (ys : List Symbol) → after code lag st ys .count ≡ min (length ys + length xs) (suc lag)
+    count-more ys =
+        ap (λ (s : State). s .count) (after-both code lag (fresh code lag) xs ys)
+        ∙ count-after (ys ++ xs)
+        ∙ ap (λ (k : ℕ). min k (suc lag)) (length-append ys xs)
 
-  -- a bit once the count is above the lag
-  given-more : (st : State) (m n k : ℕ) → st .count ≡ min (suc m + n) (suc lag) → k ≡ min m (m + n - lag) → k + length (given code lag st) ≡ min (suc m) (suc m + n - lag)
-  unfolding given
-  given-more st m n k e f = go (ltb lag (st .count)) refl
-    where
-      go : (b : Bool) → ltb lag (st .count) ≡ b → k + length (cond b (bitBehind code lag st ∷ []) []) ≡ min (suc m) (suc m + n - lag)
-      go true h = omega (arith, ltb-true lag (st .count) h)
-      go false h = omega (arith, ltb-false lag (st .count) h)
+    -- a bit once the count is above the lag
+    given-more :
+        (s : State) (m n k : ℕ) → s .count ≡ min (suc m + n) (suc lag) → k ≡ min m (m + n - lag) →
+        k + length (given code lag s) ≡ min (suc m) (suc m + n - lag)
+    unfolding given
+    given-more s m n k e f = go (ltb lag (s .count)) refl
+      where
+        go :
+            (b : Bool) → ltb lag (s .count) ≡ b →
+            k + length (cond b (bitBehind code lag s ∷ []) []) ≡ min (suc m) (suc m + n - lag)
+        go true h = omega (arith, ltb-true lag (s .count) h)
+        go false h = omega (arith, ltb-false lag (s .count) h)
 
-  -- of m symbols (0, 0) behind n others all but the lag's first give a bit each
-  pub flush-gives : (xs : List Symbol) (m : ℕ) → length (flushGives code lag (after code lag xs) m) ≡ min m (m + length xs - lag)
-  unfolding flushGives
-  flush-gives xs zero = omega arith
-  flush-gives xs (suc m) =
-      let st = flushed code lag (after code lag xs) (suc m) in
-      length-append (flushGives code lag (after code lag xs) m) (given code lag st)
-      ∙ given-more st m (length xs) (length (flushGives code lag (after code lag xs) m)) (flush-count xs (suc m)) (flush-gives xs m)
+    -- of the symbols ys behind the others all but the lag's first give a bit each
+    pub run-gives : (ys : List Symbol) → length (runGives code lag st ys) ≡ min (length ys) (length ys + length xs - lag)
+    unfolding runGives
+    run-gives [] = omega arith
+    run-gives (y ∷ ys) =
+        length-append (runGives code lag st ys) (given code lag (after code lag st (y ∷ ys)))
+        ∙ given-more (after code lag st (y ∷ ys)) (length ys) (length xs) (length (runGives code lag st ys)) (count-more (y ∷ ys))
+        (run-gives ys)
 
-  pub flush-gives-after : (xs : List Symbol) → length (flushGives code lag (after code lag xs) lag) ≡ min (length xs) lag
-  flush-gives-after xs = flush-gives xs lag ∙ omega arith
+    pub flush-after : flushed code lag st ≡ afterFresh code lag (replicate lag nought ++ xs)
+    flush-after = sym (flush-is-run code lag st) ∙ after-both code lag (fresh code lag) xs (replicate lag nought)
+
+    pub flush-gives-after : length (flushGives code lag st) ≡ min (length xs) lag
+    flush-gives-after =
+        ap length (sym (flush-gives-run code lag st))
+        ∙ run-gives (replicate lag nought)
+        ∙ omega (arith, length-replicate lag nought)

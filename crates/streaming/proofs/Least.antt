@@ -49,7 +49,9 @@ module _ (mets : List Float) where
   least-found zero = inl refl
   least-found (suc n) = go (lt (getD mets n mark) (leastOf mets n)) refl (least-found n)
     where
-      go : (b : Bool) → lt (getD mets n mark) (leastOf mets n) ≡ b → (leastOf mets n ≡ mark) ⊎ Found n → (leastOf mets (suc n) ≡ mark) ⊎ Found (suc n)
+      go :
+          (b : Bool) → lt (getD mets n mark) (leastOf mets n) ≡ b → (leastOf mets n ≡ mark) ⊎ Found n →
+          (leastOf mets (suc n) ≡ mark) ⊎ Found (suc n)
       go true e f = inr (record { at = n; at-below = omega arith; is-least = rw e })
       go false e (inl f) = inl (rw e f)
       go false e (inr f) = inr (record { at = f .at; at-below = omega arith; is-least = rw e (f .is-least) })

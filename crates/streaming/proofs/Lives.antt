@@ -1,6 +1,6 @@
--- Whatever calls were made from a fresh decoder, in any order and refused or not: its state is that after the symbols that were accepted.
--- So what is known of states after symbols is known of every life: the 2^30 bound, the counters, from when on a symbol gives a bit, and how
--- many bits a flush gives. Assumes nothing.
+-- Whatever calls were made from a fresh decoder, in any order and refused or not: its state is that after the symbols that were
+-- accepted. So what is known of states after symbols is known of every life: the 2^30 bound, the counters, from when on a symbol
+-- gives a bit, and how many bits a flush gives. Assumes nothing.
 use mathlib.Core.Bool.{Bool, true, false, cond}
 use mathlib.Core.List.{List, [], _∷_, _++_}
 use mathlib.Core.Path.{_≡_, refl, sym, ap, subst, _∙_}
@@ -12,9 +12,10 @@ use Rattle.f32s.specs.Single.{zero32, within}
 use Rattle.branches.specs.Smallest.{mark, smallest}
 use Rattle.trellis.specs.declared.ConvCode.{ConvCode}
 use Rattle.streaming.specs.Stream.{State, turns, fed, given, bitBehind}
-use Rattle.streaming.specs.Flush.{flushed, flushGives}
+use Rattle.streaming.specs.Run.{Symbol, nought, after, flushed, flushGives}
 use Rattle.streaming.specs.Said.{feedLeaves, flushLeaves}
-use Rattle.streaming.specs.Life.{Symbol, nought, Good, AllGood, after, metricBound, Life, begun, then-fed, then-flushed, heardIn}
+use Rattle.streaming.specs.Life.{Good, AllGood, joinedBy, afterFresh, metricBound}
+use Rattle.streaming.specs.Life.{Life, begun, then-fed, then-flushed, acceptedIn}
 use Rattle.streaming.proofs.Bounds.{metric-bounded}
 use Rattle.streaming.proofs.Counters.{count-after, turn-after, gives-after, flush-after, flush-gives-after}
 
@@ -29,70 +30,69 @@ noughts-good (suc n) xs good = (nought-good, noughts-good n xs good)
 
 module _ (code : ConvCode) (lag : ℕ) where
   -- the symbols were accepted, and the state is that after them
-  record Heard (st : State) (xs : List Symbol) : Type 0 where
+  record Accepted (st : State) (xs : List Symbol) : Type 0 where
     good : AllGood xs
-    is : st ≡ after code lag xs
+    is : st ≡ afterFresh code lag xs
 
-  heard-more :
-      (st : State) (xs : List Symbol) (re im : Float) → Heard st xs →
-      Heard (feedLeaves code lag st re im) (cond (within re) (cond (within im) (record { re = re; im = im } ∷ xs) xs) xs)
+  accepted-more :
+      (st : State) (xs : List Symbol) (re im : Float) → Accepted st xs → Accepted (feedLeaves code lag st re im) (joinedBy re im xs)
   unfolding feedLeaves after
-  heard-more st xs re im h = go (within re) (within im) refl refl
+  accepted-more st xs re im h = go (within re) (within im) refl refl
     where
       go :
           (p q : Bool) → within re ≡ p → within im ≡ q →
-          Heard (cond p (cond q (fed code lag st re im) st) st) (cond p (cond q (record { re = re; im = im } ∷ xs) xs) xs)
+          Accepted (cond p (cond q (fed code lag st re im) st) st) (cond p (cond q (record { re = re; im = im } ∷ xs) xs) xs)
       go true true e f =
           record { good = (record { re-within = e; im-within = f }, h .good); is = ap (λ (s : State). fed code lag s re im) (h .is) }
       go true false e f = h
       go false q e f = h
 
-  heard-flush :
-      (st : State) (xs : List Symbol) (room : ℕ) → Heard st xs →
-      Heard (flushLeaves code lag st room) (cond (ltb room lag) xs (replicate lag nought ++ xs))
+  accepted-flush :
+      (st : State) (xs : List Symbol) (room : ℕ) → Accepted st xs →
+      Accepted (flushLeaves code lag st room) (cond (ltb room lag) xs (replicate lag nought ++ xs))
   unfolding flushLeaves
-  heard-flush st xs room h = go (ltb room lag)
+  accepted-flush st xs room h = go (ltb room lag)
     where
-      go : (b : Bool) → Heard (cond b st (flushed code lag st lag)) (cond b xs (replicate lag nought ++ xs))
+      go : (b : Bool) → Accepted (cond b st (flushed code lag st)) (cond b xs (replicate lag nought ++ xs))
       go true = h
       go false =
-          record {
-            good = noughts-good lag xs (h .good);
-            is = ap (λ (s : State). flushed code lag s lag) (h .is) ∙ flush-after code lag xs lag;
-          }
+          record { good = noughts-good lag xs (h .good); is = ap (flushed code lag) (h .is) ∙ flush-after code lag xs }
 
-  heard : (st : State) (life : Life code lag st) → Heard st (heardIn code lag st life)
-  unfolding heardIn after
-  heard st begun = record { good = tt; is = refl }
-  heard st (then-fed before re im life) = heard-more before (heardIn code lag before life) re im (heard before life)
-  heard st (then-flushed before room life) = heard-flush before (heardIn code lag before life) room (heard before life)
+  accepted : (st : State) (life : Life code lag st) → Accepted st (acceptedIn code lag st life)
+  unfolding acceptedIn after
+  accepted st begun = record { good = tt; is = refl }
+  accepted st (then-fed before re im life) =
+      accepted-more before (acceptedIn code lag before life) re im (accepted before life)
+  accepted st (then-flushed before room life) =
+      accepted-flush before (acceptedIn code lag before life) room (accepted before life)
 
   module _ (st : State) (life : Life code lag st) where
     -- the symbols of the life, and how many there are
     abbrev symbols : List Symbol
-    symbols = heardIn code lag st life
+    symbols = acceptedIn code lag st life
 
-    pub life-is-after : st ≡ after code lag (heardIn code lag st life)
-    life-is-after = heard st life .is
+    pub life-is-after : st ≡ afterFresh code lag (acceptedIn code lag st life)
+    life-is-after = accepted st life .is
 
     pub life-bounded :
         0 < code .width → code .width ≤ 16 → (s : ℕ) → s < 2 ^ code .width → smallest .reached (getD (st .pm) s mark) ≡ true →
         (le zero32 (getD (st .pm) s mark) ≡ true) × (lt (getD (st .pm) s mark) metricBound ≡ true)
     life-bounded some small s h r =
         let is = life-is-after in
-        rw is (metric-bounded code some small lag symbols (heard st life .good) s h (rw is at r))
+        rw is (metric-bounded code some small lag symbols (accepted st life .good) s h (rw is at r))
 
-    pub life-count : st .count ≡ min (length (heardIn code lag st life)) (suc lag)
+    pub life-count : st .count ≡ min (length (acceptedIn code lag st life)) (suc lag)
     life-count = ap (λ (s : State). s .count) life-is-after ∙ count-after code lag symbols
 
-    pub life-turn : st .turn ≡ length (heardIn code lag st life) % turns
+    pub life-turn : st .turn ≡ length (acceptedIn code lag st life) % turns
     life-turn = ap (λ (s : State). s .turn) life-is-after ∙ turn-after code lag symbols
 
     -- nothing up to the lag, then a bit
-    pub life-gives : given code lag st ≡ cond (ltb lag (length (heardIn code lag st life))) (bitBehind code lag st ∷ []) []
+    pub life-gives : given code lag st ≡ cond (ltb lag (length (acceptedIn code lag st life))) (bitBehind code lag st ∷ []) []
     life-gives =
         subst (λ (s : State). given code lag s ≡ cond (ltb lag (length symbols)) (bitBehind code lag s ∷ []) []) (sym life-is-after)
         (gives-after code lag symbols)
 
-    pub life-flush-gives : length (flushGives code lag st lag) ≡ min (length (heardIn code lag st life)) lag
-    life-flush-gives = ap (λ (s : State). length (flushGives code lag s lag)) life-is-after ∙ flush-gives-after code lag symbols
+    pub life-flush-gives : length (flushGives code lag st) ≡ min (length (acceptedIn code lag st life)) lag
+    life-flush-gives =
+        ap (λ (s : State). length (flushGives code lag s)) life-is-after ∙ flush-gives-after code lag symbols

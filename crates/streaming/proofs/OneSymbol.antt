@@ -1,41 +1,55 @@
--- One symbol: the parts that the code makes are the state after it, and each of its answers is what the definition says. Assumes nothing.
+-- One symbol: the parts that the code makes are the state after it, and each of its answers is what the definition says.
+-- Assumes nothing.
 use mathlib.Core.Bool.{Bool, true, false, cond}
 use mathlib.Core.List.{List, [], _∷_, _++_, append-nil}
 use mathlib.Core.Path.{_≡_, sym, ap, ap₂, _∙_}
-use Prim.Native.Nat.{ℕ, suc, _+_, _*_, _%_, min, _≤_, _<_}
+use Prim.Native.Nat.{ℕ, suc, _+_, _*_, _%_, _^_, min, _≤_, _<_}
+use native.Mathlib.Nat.{mul-comm}
 use native.Mathlib.Omega.{arith}
 use borrow.Author.Tests.{lt-ltb, le-ltb}
-use lib.Dec.{eqb}
 use lib.Ieee.{Float}
-use Rattle.best_path.proofs.Candidates.{where-false}
+use lib.ListN.{drop}
 use Rattle.f32s.specs.Single.{within}
 use Rattle.refusal.specs.Answer.{accepted, refused}
-use Rattle.symbols.specs.Inner.{newMets, newFroms}
+use Rattle.refusal.specs.Lent.{Lent}
 use Rattle.trellis.specs.Choice.{k5}
+use Rattle.streaming.specs.declared.Emitted.the-variants as emitted
+use Rattle.streaming.specs.declared.FedLent.{FedLent}
 use Rattle.streaming.specs.declared.Front.{Front}
-use Rattle.streaming.specs.declared.Heard.the-variants as heard
-use Rattle.streaming.specs.declared.Stepped.{Stepped}
-use Rattle.streaming.specs.Stream.{State, turns, rowsKept, stepped, metsAfter, fromsAfter, normalised, kept, fed, bitBehind, given}
-use Rattle.streaming.specs.Said.{feedSaid, feedLeaves}
-use Rattle.streaming.specs.Held.{lag, standing, RefusesAt, Steps}
+use Rattle.streaming.specs.Stream.{State, turns, rowsKept, newMets, newFroms, normalisedAt, kept, fed, bitBehind, given}
+use Rattle.streaming.specs.Said.{ofSymbol, feedSaid, feedLeaves}
+use Rattle.streaming.specs.Decoder.{lag, stateOf}
+use Rattle.streaming.specs.Inner.{SelectsNew, NormalisedAfter, Keeps, RefusesAt, Advances, FeedsLent}
 
-module _ (front next : Front) (history left : List ℕ) (re im : Float) where
-  pub parts-fed :
-      (mets : List Float) (froms : List ℕ) → mets ≡ newMets k5 (front .pm) re im → froms ≡ newFroms k5 (front .pm) re im ++ [] →
-      left ≡ kept mets froms (16 * (front .turn % 128)) 16 history →
-      next .pm ≡ cond (eqb (front .turn % turns) 255) (normalised 16 mets) mets →
-      next .count ≡ min (suc (front .count % (lag + 2))) (suc lag) → next .turn ≡ suc (front .turn % turns) % turns →
-      standing next left ≡ fed k5 lag (standing front history) re im
-  unfolding fed metsAfter fromsAfter stepped
-  parts-fed mets froms of-mets of-froms of-left of-pm of-count of-turn =
-      let row : 16 * (front .turn % 128) ≡ front .turn % turns % rowsKept * 16 = omega arith in
-      let of-row : left ≡ kept (newMets k5 (front .pm) re im) (newFroms k5 (front .pm) re im) (front .turn % turns % rowsKept * 16) 16 history =
-      of-left
-      ∙ ap (λ (at : ℕ). kept mets froms at 16 history) row
-      ∙ ap₂ (λ (ms : List Float) (fs : List ℕ). kept ms fs (front .turn % turns % rowsKept * 16) 16 history) of-mets (of-froms ∙ append-nil (newFroms k5 (front .pm) re im)) in
-      let of-metrics : next .pm ≡ cond (eqb (front .turn % turns) 255) (normalised 16 (newMets k5 (front .pm) re im)) (newMets k5 (front .pm) re im) =
-      of-pm ∙ ap (λ (ms : List Float). cond (eqb (front .turn % turns) 255) (normalised 16 ms) ms) of-mets in
-      λ i. record { pm = of-metrics i; history = of-row i; count = of-count i; turn = of-turn i }
+-- the row that the code writes to is the one of the symbols so far
+row-of-turn : (turn states : ℕ) → states * (turn % rowsKept) ≡ turn % turns % rowsKept * states
+row-of-turn turn states =
+    let row : turn % rowsKept ≡ turn % turns % rowsKept = omega arith in
+    ap (λ (n : ℕ). states * n) row ∙ mul-comm states (turn % turns % rowsKept)
+
+pub parts-fed :
+    {front r : Front} {re im : Float} {next : Lent Float} {froms history : Lent ℕ} {count turn : ℕ} →
+    SelectsNew (front .pm) re im next froms → drop (2 ^ k5 .width) (froms .given) ≡ [] →
+    Keeps (next .left) (froms .left) (2 ^ k5 .width * (front .turn % rowsKept)) history →
+    count ≡ min (suc (front .count % (lag + 2))) (suc lag) → turn ≡ suc (front .turn % turns) % turns →
+    NormalisedAfter (front .turn) (record { pm = next .left; count = count; turn = turn }) r →
+    Advances front re im r history
+unfolding fed
+parts-fed {front} {r} {re} {im} {next} {froms} {history} selects whole keeps counts turned normal =
+    let states = 2 ^ k5 .width in
+    let mets = newMets k5 (front .pm) re im in
+    let news = newFroms k5 (front .pm) re im in
+    let of-froms : froms .left ≡ news = selects .of-froms ∙ ap (λ (l : List ℕ). news ++ l) whole ∙ append-nil news in
+    let of-row : history .left ≡ kept mets news (front .turn % turns % rowsKept * states) states (history .given) =
+    keeps .entries
+    ∙ ap (λ (at : ℕ). kept (next .left) (froms .left) at states (history .given)) (row-of-turn (front .turn) states)
+    ∙ ap₂ (λ (ms : List Float) (fs : List ℕ). kept ms fs (front .turn % turns % rowsKept * states) states (history .given))
+    (selects .of-mets) of-froms in
+    let of-pm : r .pm ≡ normalisedAt (front .turn) states mets =
+    normal .pm ∙ ap (normalisedAt (front .turn) states) (selects .of-mets) in
+    let of-count = normal .count ∙ counts in
+    let of-turn = normal .turn ∙ turned in
+    record { state = λ i. record { pm = of-pm i; history = of-row i; count = of-count i; turn = of-turn i } }
 
 -- ---- what a symbol gives
 
@@ -46,47 +60,61 @@ none-given st h = ap (λ (due : Bool). cond due (bitBehind k5 lag st ∷ []) [])
 pub one-given : (st : State) (b : ℕ) → lag < st .count → b ≡ bitBehind k5 lag st → given k5 lag st ≡ b ∷ []
 unfolding given
 one-given st b h e =
-    ap (λ (due : Bool). cond due (bitBehind k5 lag st ∷ []) []) (lt-ltb lag (st .count) h) ∙ ap (λ (bit : ℕ). bit ∷ []) (sym e)
+    ap (λ (due : Bool). cond due (bitBehind k5 lag st ∷ []) []) (lt-ltb lag (st .count) h)
+    ∙ ap (λ (bit : ℕ). bit ∷ []) (sym e)
 
 -- ---- the answers
 
--- two tests, one within the other
-both-hold : {A : Type 0} (p q : Bool) (x y z : A) → p ≡ true → q ≡ true → x ≡ cond p (cond q x y) z
-both-hold p q x y z e f = rw (e, f)
+-- of the two tests, one within the other
+module _ {A : Type 0} (re im : Float) (good bad-re bad-im : A) where
+  where-good : within re ≡ true → within im ≡ true → good ≡ ofSymbol re im good bad-re bad-im
+  where-good e f = rw (e, f)
 
-first-only : {A : Type 0} (p q : Bool) (x y z : A) → p ≡ true → q ≡ false → y ≡ cond p (cond q x y) z
-first-only p q x y z e f = rw (e, f)
+  where-bad-im : within re ≡ true → within im ≡ false → bad-im ≡ ofSymbol re im good bad-re bad-im
+  where-bad-im e f = rw (e, f)
 
-module _ (front : Front) (history : List ℕ) (re im : Float) where
-  pub refused-re : (r : Stepped) → RefusesAt 0 front r → within re ≡ false → Steps front history re im r history
+  where-bad-re : within re ≡ false → bad-re ≡ ofSymbol re im good bad-re bad-im
+  where-bad-re e = rw e
+
+module _ {front : Front} {history : List ℕ} {re im : Float} {r : FedLent} where
+  pub refused-re :
+      RefusesAt 0 front r → within re ≡ false → FeedsLent front re im r (record { given = history; left = history })
   unfolding feedSaid feedLeaves
-  refused-re r refuses e =
+  refused-re refuses e =
       record {
-        answer = refuses .answer ∙ where-false (within re) _ (refused 7 0) e;
-        state = ap (λ (s : Front). standing s history) (refuses .state) ∙ where-false (within re) _ (standing front history) e;
+        answer = refuses .answer ∙ where-bad-re re im _ _ (refused 7 1) e;
+        state = ap (λ (f : Front). stateOf f history) (refuses .state) ∙ where-bad-re re im _ _ (stateOf front history) e;
       }
 
-  pub refused-im : (r : Stepped) → RefusesAt 1 front r → within re ≡ true → within im ≡ false → Steps front history re im r history
+  pub refused-im :
+      RefusesAt 1 front r → within re ≡ true → within im ≡ false →
+      FeedsLent front re im r (record { given = history; left = history })
   unfolding feedSaid feedLeaves
-  refused-im r refuses e f =
+  refused-im refuses e f =
       record {
-        answer = refuses .answer ∙ first-only (within re) (within im) _ (refused 7 1) _ e f;
-        state = ap (λ (s : Front). standing s history) (refuses .state) ∙ first-only (within re) (within im) _ (standing front history) _ e f;
+        answer = refuses .answer ∙ where-bad-im re im _ (refused 7 0) _ e f;
+        state = ap (λ (f : Front). stateOf f history) (refuses .state) ∙ where-bad-im re im _ (stateOf front history) _ e f;
       }
 
-  module _ (next : Front) (left : List ℕ) (re-in : within re ≡ true) (im-in : within im ≡ true) (of-state : standing next left ≡ fed k5 lag (standing front history) re im) where
-    left-state : standing next left ≡ feedLeaves k5 lag (standing front history) re im
-    unfolding feedLeaves
-    left-state = of-state ∙ both-hold (within re) (within im) (fed k5 lag (standing front history) re im) _ _ re-in im-in
+module _
+    {front next : Front} {history : Lent ℕ} {re im : Float} (re-in : within re ≡ true) (im-in : within im ≡ true)
+    (advances : Advances front re im next history) where
+  abbrev now : State
+  now = stateOf next (history .left)
 
-    said : accepted (given k5 lag (standing next left)) ≡ feedSaid k5 lag (standing front history) re im
-    unfolding feedSaid
-    said =
-        ap (λ (st : State). accepted (given k5 lag st)) of-state
-        ∙ both-hold (within re) (within im) (accepted (given k5 lag (fed k5 lag (standing front history) re im))) _ _ re-in im-in
+  left-state : now ≡ feedLeaves k5 lag (stateOf front (history .given)) re im
+  unfolding feedLeaves
+  left-state = advances .state ∙ where-good re im _ _ _ re-in im-in
 
-    pub nothing-yet : next .count ≤ lag → Steps front history re im (record { answer = heard.Nothing; front = next }) left
-    nothing-yet h = record { answer = ap accepted (sym (none-given (standing next left) h)) ∙ said; state = left-state }
+  said : accepted (given k5 lag now) ≡ feedSaid k5 lag (stateOf front (history .given)) re im
+  unfolding feedSaid
+  said = ap (λ (st : State). accepted (given k5 lag st)) (advances .state) ∙ where-good re im _ _ _ re-in im-in
 
-    pub bit-heard : (b : ℕ) → lag < next .count → b ≡ bitBehind k5 lag (standing next left) → Steps front history re im (record { answer = heard.Bit b; front = next }) left
-    bit-heard b h e = record { answer = ap accepted (sym (one-given (standing next left) b h e)) ∙ said; state = left-state }
+  pub nothing-yet :
+      next .count ≤ lag → FeedsLent front re im (record { answer = emitted.Nothing; front = next }) history
+  nothing-yet h = record { answer = ap accepted (sym (none-given now h)) ∙ said; state = left-state }
+
+  pub bit-emitted :
+      {b : ℕ} → lag < next .count → b ≡ bitBehind k5 lag now →
+      FeedsLent front re im (record { answer = emitted.Bit b; front = next }) history
+  bit-emitted {b} h e = record { answer = ap accepted (sym (one-given now b h e)) ∙ said; state = left-state }

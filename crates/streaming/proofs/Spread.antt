@@ -1,4 +1,5 @@
--- How far the metrics lie apart. Along a way out of a least state each step adds at most what a branch costs, and no metric goes below that least. So
+-- How far the metrics lie apart. Along a way out of a least state each step adds at most what a branch costs, and no metric
+-- goes below that least. So
 -- after as many steps as the register has cells every state is reached, and all metrics lie close together. Assumes nothing.
 use mathlib.Core.Bool.{true, false}
 use mathlib.Core.List.{List}
@@ -19,7 +20,8 @@ use Rattle.streaming.proofs.Least.{Found, least-not-above, least-is-one
 use Rattle.streaming.proofs.Plain.{dearest, scale, exact, MarkOrRange, reached-range, no-more, next, next-range, next-led}
 use Rattle.streaming.proofs.Way.{way, wayInput, way-below, way-input, way-starts, way-next, way-ends}
 
--- After j steps: every metric is the mark or from `low` up to q, in multiples of 2 ^ 13. At first the state `source` had at most one more than `low`,
+-- After j steps: every metric is the mark or from `low` up to q, in multiples of 2 ^ 13. At first the state `source` had at
+-- most one more than `low`,
 -- so on every way out of it there is at most what j branches cost on top of that.
 pub record Spread (code : ConvCode) (q j : ℕ) (mets : List Float) : Type 0 where
   pub low : ℕ
@@ -67,7 +69,8 @@ module _ (code : ConvCode) (q : ℕ) (mets : List Float) (bounded : (s : ℕ) �
           spread-from (f .at) (floored scale u .0) (f .at-below) least u (floored scale u .1)
 
 pub spread-steps :
-    (code : ConvCode) → 0 < code .width → (re im : Float) → within re ≡ true → within im ≡ true → (q j : ℕ) (mets : List Float) → 2 ^ code .width ≤ length mets →
+    (code : ConvCode) → 0 < code .width → (re im : Float) → within re ≡ true → within im ≡ true → (q j : ℕ) (mets : List Float) →
+    2 ^ code .width ≤ length mets →
     q + 1 + dearest ≤ exact → Spread code q j mets → Spread code (q + dearest) (suc j) (next code re im mets)
 spread-steps code some re im re-in im-in q j mets room few v =
     let low = v .low in
@@ -76,7 +79,8 @@ spread-steps code some re im re-in im-in q j mets room few v =
     let led : (n : ℕ) → UpTo (suc low + dearest * j + dearest) scale (getD (next code re im mets) (at n (suc j)) mark) =
     λ n.
     rw (← way-next code some (v .source) n j)
-    (next-led code some re im re-in im-in mets room low q (suc low + dearest * j) (at n j) (wayInput code (v .source) n j) (omega arith) (v .all)
+    (next-led code some re im re-in im-in mets room low q (suc low + dearest * j) (at n j) (wayInput code (v .source) n j) (omega arith)
+    (v .all)
     (way-below code (v .source) n j) (way-input code (v .source) n j)
     (rw (way-next code some (v .source) n j) (way-below code (v .source) n (suc j)))
     (omega arith) (v .led n)) in

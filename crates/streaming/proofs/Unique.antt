@@ -1,28 +1,46 @@
--- Of each entry, any two outcomes that its contract allows are equal. `Post` is the contract: of what the call is given, what it returns, and what it
--- leaves in each argument. Those in place have contracts over named records, which their laws are about. `held` tells two decoders apart, field by
--- field. Assumes nothing.
+-- Of each entry, any two outcomes that its contract allows are equal. `Post` is the contract as the prover reads it: of what
+-- the call is given, what it returns, and what it leaves in each argument. `held` tells two decoders apart, field by field.
+-- The entries in place are walks by hand, of which the prover reads no `Post`: their laws are over the records that their
+-- contracts cite. Assumes nothing.
 use mathlib.Core.List.{List}
 use mathlib.Core.Path.{_≡_, ap, ap₂, sym, _∙_}
 use Prim.Native.Nat.{ℕ}
 use lib.Ieee.{Float}
-use lib.ListN.{length}
-use Rattle.refusal.specs.Lent.{leaves}
+use Rattle.refusal.specs.Answer.{Said, Counts}
 use Rattle.refusal.specs.declared.Counted.{Counted}
-use Rattle.refusal.proofs.Told.{same-refusal, count-told}
-use Rattle.refusal.proofs.Determined.{Determined₂, Determined₃}
-use Rattle.trellis.specs.Choice.{k5}
+use Rattle.refusal.proofs.Told.{same-refusal, counts-tell}
+use Rattle.refusal.proofs.Determined.{Once, OnceLeft, Determined₂, Determined₃, Telling}
 use Rattle.streaming.specs.declared.StreamingViterbi.{StreamingViterbi}
-use Rattle.streaming.specs.declared.Heard.{Heard}
-use Rattle.streaming.specs.declared.Heard.the-variants as heard
+use Rattle.streaming.specs.declared.Emitted.{Emitted}
+use Rattle.streaming.specs.declared.Emitted.the-variants as emitted
 use Rattle.streaming.specs.declared.Fed.{Fed}
 use Rattle.streaming.specs.declared.Flushed.{Flushed}
 use Rattle.streaming.specs.Stream.{State}
-use Rattle.streaming.specs.Flush.{flushGives}
-use Rattle.streaming.specs.Said.{flushSaid}
-use Rattle.streaming.specs.Held.{lag, held, heardSaid, FeedsIn, FlushesIn}
+use Rattle.streaming.specs.Said.{emittedSaid, Emits}
+use Rattle.streaming.specs.Decoder.{held}
+use Rattle.streaming.specs.Promise.{Feeds, Flushes}
 use Rattle.streaming.proofs.StreamingViterbi.new.Reads as new
 use Rattle.streaming.proofs.StreamingViterbi.feed_symbol.Reads as feed-symbol
 use Rattle.streaming.proofs.StreamingViterbi.flush.Reads as flush-by-value
+
+-- ---- by the records that contracts cite
+
+pub feeds-once :
+    {R : Type 0} (Answers : R → Said (List ℕ) → Type 0) → Telling Answers →
+    (given : State) (re im : Float) → Determined₂ (λ (r : R) (left : State). Feeds (Answers r) given left re im)
+feeds-once Answers telling given re im r r' left left' p q =
+    (telling _ r r' (p .answer) (q .answer), p .state ∙ sym (q .state))
+
+pub flushes-once :
+    {R : Type 0} (Answers : R → Said ℕ → Type 0) → Telling Answers → (given : State) (old : List ℕ) →
+    Determined₃ (λ (r : R) (left : State) (out : List ℕ). Flushes (Answers r) given left (record { given = old; left = out }))
+flushes-once Answers telling given old r r' left left' out out' p q = (
+  telling _ r r' (p .writes .answer) (q .writes .answer),
+  p .state ∙ sym (q .state),
+  p .writes .output ∙ sym (q .writes .output),
+)
+
+-- ---- answers and decoders
 
 -- the record that a state is
 abbrev decoderOf : State → StreamingViterbi
@@ -32,48 +50,56 @@ pub held-told : (d e : StreamingViterbi) → held d ≡ held e → d ≡ e
 held-told d e = ap decoderOf
 
 -- two answers to a symbol of which document 01 says the same are equal
-pub heard-told : (a b : Heard) → heardSaid a ≡ heardSaid b → a ≡ b
-heard-told (heard.Bit m) (heard.Bit n) e = cc
-heard-told (heard.Bit m) heard.Nothing e = cc
-heard-told (heard.Bit m) (heard.Refused r) e = cc
-heard-told heard.Nothing (heard.Bit n) e = cc
-heard-told heard.Nothing heard.Nothing e = cc
-heard-told heard.Nothing (heard.Refused r) e = cc
-heard-told (heard.Refused q) (heard.Bit n) e = cc
-heard-told (heard.Refused q) heard.Nothing e = cc
-heard-told (heard.Refused q) (heard.Refused r) e = ap heard.Refused (same-refusal q r (cc) (cc))
+pub emitted-told : (a b : Emitted) → emittedSaid a ≡ emittedSaid b → a ≡ b
+emitted-told (emitted.Bit m) (emitted.Bit n) e = cc
+emitted-told (emitted.Bit m) emitted.Nothing e = cc
+emitted-told (emitted.Bit m) (emitted.Refused r) e = cc
+emitted-told emitted.Nothing (emitted.Bit n) e = cc
+emitted-told emitted.Nothing emitted.Nothing e = cc
+emitted-told emitted.Nothing (emitted.Refused r) e = cc
+emitted-told (emitted.Refused q) (emitted.Bit n) e = cc
+emitted-told (emitted.Refused q) emitted.Nothing e = cc
+emitted-told (emitted.Refused q) (emitted.Refused r) e = ap emitted.Refused (same-refusal q r (cc) (cc))
 
--- ---- by value
+pub emits-tell : Telling Emits
+emits-tell said r r' p q = emitted-told r r' (p ∙ sym q)
 
-pub new-determined :
-    (κs : _) (given : _) (r r' : StreamingViterbi) (left left' : _) → new.Post κs given r left → new.Post κs given r' left' → r ≡ r'
-new-determined κs given r r' left left' p q = held-told r r' (p ∙ sym q)
-
-abbrev fed : Heard → StreamingViterbi → Fed
+abbrev fed : Emitted → StreamingViterbi → Fed
 fed a d = record { answer = a; decoder = d }
-
-pub feed-symbol-determined :
-    (κs : _) (given : _) (r r' : Fed) (left left' : _) → feed-symbol.Post κs given r left → feed-symbol.Post κs given r' left' → r ≡ r'
-feed-symbol-determined κs given r r' left left' p q = ap₂ fed (heard-told (r .answer) (r' .answer) (p .answer ∙ sym (q .answer))) (held-told (r .decoder) (r' .decoder) (p .state ∙ sym (q .state)))
 
 abbrev flushed : Counted → StreamingViterbi → Flushed
 flushed a d = record { answer = a; decoder = d }
 
-pub flush-by-value-determined :
-    (κs : _) (given : _) (r r' : Flushed) (left left' : _) → flush-by-value.Post κs given r left → flush-by-value.Post κs given r' left' →
-    (r ≡ r') × (left .1 .0 .now ≡ left' .1 .0 .now)
-flush-by-value-determined κs given r r' left left' p q = (
-  ap₂ flushed (count-told (r .answer) (r' .answer) (p .0 .answer ∙ sym (q .0 .answer))) (held-told (r .decoder) (r' .decoder) (p .0 .state ∙ sym (q .0 .state))),
-  p .1 ∙ sym (q .1),
-)
+-- ---- by value
+
+pub new-once : (κs : _) → Once (λ (r : StreamingViterbi). new.Post κs tt r tt)
+new-once κs r r' p q = held-told r r' (p .state ∙ sym (q .state))
+
+pub feed-symbol-once :
+    (κs d re im : _) → Once (λ (r : Fed). feed-symbol.Post κs (d, (re, (im, tt))) r (d, (re, (im, tt))))
+feed-symbol-once κs d re im r r' p q =
+    let (answer, state) = feeds-once Emits emits-tell (held d) re im (r .answer) (r' .answer) _ _ p q in
+    ap₂ fed answer (held-told (r .decoder) (r' .decoder) state)
+
+pub flush-by-value-once :
+    (κs d out : _) → OnceLeft (λ (r : Flushed) left. flush-by-value.Post κs (d, (out, tt)) r (d, (left, tt)))
+flush-by-value-once κs d out r r' left left' p q =
+    let (answer, state, output) = flushes-once Counts counts-tell (held d) (out .now) (r .answer) (r' .answer) _ _ _ _ p q in
+    (ap₂ flushed answer (held-told (r .decoder) (r' .decoder) state), output)
 
 -- ---- in place
 
-pub feed-in-place-determined : (d : StreamingViterbi) (re im : Float) → Determined₂ (FeedsIn d re im)
-feed-in-place-determined d re im r r' left left' p q = (heard-told r r' (cc), held-told left left' (cc))
+pub feed-in-place-once :
+    (d : StreamingViterbi) (re im : Float) →
+    Determined₂ (λ (r : Emitted) (left : StreamingViterbi). Feeds (Emits r) (held d) (held left) re im)
+feed-in-place-once d re im r r' left left' p q =
+    let (answer, state) = feeds-once Emits emits-tell (held d) re im r r' _ _ p q in
+    (answer, held-told left left' state)
 
-pub flush-in-place-determined : (d : StreamingViterbi) (old : List ℕ) →
+pub flush-in-place-once :
+    (d : StreamingViterbi) (old : List ℕ) →
     Determined₃ (λ (r : Counted) (left : StreamingViterbi) (out : List ℕ).
-    FlushesIn d (length old) r left
-    × (out ≡ leaves (flushSaid k5 lag (held d) (length old)) (flushGives k5 lag (held d) lag) old))
-flush-in-place-determined d old r r' left left' out out' p q = (count-told r r' (cc), held-told left left' (cc), cc)
+    Flushes (Counts r) (held d) (held left) (record { given = old; left = out }))
+flush-in-place-once d old r r' left left' out out' p q =
+    let (answer, state, output) = flushes-once Counts counts-tell (held d) old r r' _ _ out out' p q in
+    (answer, held-told left left' state, output)

@@ -1,4 +1,5 @@
--- The way from a state to any other in as many steps as the register has cells: each step takes in the next bit of the state to reach, low bits first.
+-- The way from a state to any other in as many steps as the register has cells: each step takes in the next bit of the state
+-- to reach, low bits first.
 -- Over any code with a cell at least. Assumes nothing.
 use mathlib.Core.Path.{_≡_, sym, ap, _∙_}
 use Prim.Native.Nat.{ℕ, suc, _+_, _*_, _/_, _%_, _^_, _<_}
@@ -39,7 +40,8 @@ way-input code s n j = mod-lt ((n * 2 ^ code .width + s) / 2 ^ j / 2 ^ code .wid
 pub way-starts : (code : ConvCode) (s n : ℕ) → s < 2 ^ code .width → way code s n 0 ≡ s
 way-starts code s n h = ap (λ (x : ℕ). x % 2 ^ code .width) (div-one (n * 2 ^ code .width + s)) ∙ low n (code .width) h
 
-pub way-next : (code : ConvCode) → 0 < code .width → (s n j : ℕ) → nextState code (way code s n j) (wayInput code s n j) ≡ way code s n (suc j)
+pub way-next :
+    (code : ConvCode) → 0 < code .width → (s n j : ℕ) → nextState code (way code s n j) (wayInput code s n j) ≡ way code s n (suc j)
 way-next code some s n j =
     let x = n * 2 ^ code .width + s in
     next-shifted code some (x / 2 ^ j) ∙ ap (λ (y : ℕ). y % 2 ^ code .width) (shr-shr x j 1 ∙ ap (λ (i : ℕ). x / 2 ^ i) (add-one j))

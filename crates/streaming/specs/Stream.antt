@@ -1,7 +1,8 @@
--- The streaming decoder, symbol by symbol: its state, what a symbol makes of it, and the bit that comes out. Over any code and lag. Definitions only.
+-- The streaming decoder, symbol by symbol: its state, what a symbol makes of it, and the bit that comes out. Over any
+-- code and lag. Definitions only.
 use mathlib.Core.Bool.{cond}
 use mathlib.Core.List.{List, [], _∷_, map}
-use Prim.Native.Nat.{ℕ, zero, suc, _+_, _*_, _%_, _^_, min}
+use Prim.Native.Nat.{ℕ, zero, suc, _+_, _-_, _*_, _%_, _^_, min}
 use lib.Dec.{eqb, ltb}
 use lib.Ieee.{Float, nan, binary32, sub, lt}
 use lib.ListN.{getD, set, replicate}
@@ -30,7 +31,23 @@ turns = 256
 
 -- the row before a row, round the end
 abbrev pub rowBefore : ℕ → ℕ
-rowBefore row = (row + 127) % rowsKept
+rowBefore row = (row + (rowsKept - 1)) % rowsKept
+
+-- ---- add, compare, select
+
+module _ (code : ConvCode) (pm : List Float) (re im : Float) where
+  -- one step from the metrics pm, where the symbol reads re and im
+  unfoldable pub stepped : List (Cell Float)
+  unfolding step costs
+  stepped = step smallest code (λ (s : ℕ). getD pm s nan) (costs code re im)
+
+  unfoldable pub newMets : List Float
+  unfolding stepped
+  newMets = map (λ (c : Cell Float). c .met) stepped
+
+  unfoldable pub newFroms : List ℕ
+  unfolding stepped
+  newFroms = map (λ (c : Cell Float). c .from) stepped
 
 -- ---- normalisation
 
@@ -48,19 +65,27 @@ unfoldable pub normalised : ℕ → List Float → List Float
 unfolding leastOf
 normalised states mets = cond (lt zero32 (leastOf mets states)) (map (lowered (leastOf mets states)) mets) mets
 
+-- when the symbols so far mod 256 were 255 before the symbol
+abbrev pub normalisedAt : (turn states : ℕ) → List Float → List Float
+normalisedAt turn states mets = cond (eqb (turn % turns) (turns - 1)) (normalised states mets) mets
+
 -- ---- the history
 
--- A row from `at` on, after the states below n: the survivor of each state that a candidate won, whose metric is then below the mark. Other entries
--- keep their content.
+-- A row from `at` on, after the states below n: the survivor of each state that a candidate won, whose metric is then
+-- below the mark. Other entries keep their content.
 unfoldable pub kept : List Float → List ℕ → (at n : ℕ) → List ℕ → List ℕ
 kept mets froms at zero history = history
 kept mets froms at (suc s) history =
-    cond (smallest .reached (getD mets s mark)) (set (kept mets froms at s history) (at + s) (getD froms s 0)) (kept mets froms at s history)
+    cond (smallest .reached (getD mets s mark))
+    (set (kept mets froms at s history) (at + s) (getD froms s 0))
+    (kept mets froms at s history)
 
--- The state n steps behind s, whose survivor stands in a row. A survivor number out of range is read modulo the number of states.
+-- The state n steps behind s, whose survivor stands in a row. A survivor number out of range is read modulo the number
+-- of states.
 unfoldable pub behind : ℕ → List ℕ → (row n s : ℕ) → ℕ
 behind states history row zero s = s
-behind states history row (suc n) s = behind states history (rowBefore row) n (getD history (row * states + s) 0 % states)
+behind states history row (suc n) s =
+    behind states history (rowBefore row) n (getD history (row * states + s) 0 % states)
 
 -- ---- one symbol
 
@@ -77,26 +102,15 @@ module _ (code : ConvCode) (lag : ℕ) where
     abbrev pub turnRead : ℕ
     turnRead = st .turn % turns
 
-    -- one add-compare-select, where the symbol reads re and im
-    unfoldable pub stepped : Float → Float → List (Cell Float)
-    unfolding step costs
-    stepped re im = step smallest code (λ (s : ℕ). getD (st .pm) s nan) (costs code re im)
-
-    unfoldable pub metsAfter : Float → Float → List Float
-    unfolding stepped
-    metsAfter re im = map (λ (c : Cell Float). c .met) (stepped re im)
-
-    unfoldable pub fromsAfter : Float → Float → List ℕ
-    unfolding stepped
-    fromsAfter re im = map (λ (c : Cell Float). c .from) (stepped re im)
-
-    -- the state after the symbol: normalised when the old count mod 256 is 255
+    -- the state after the symbol
     unfoldable pub fed : Float → Float → State
-    unfolding metsAfter fromsAfter normalised kept
+    unfolding newMets newFroms normalised kept
     fed re im =
+        let mets = newMets code (st .pm) re im in
+        let froms = newFroms code (st .pm) re im in
         record {
-          pm = cond (eqb turnRead 255) (normalised (2 ^ code .width) (metsAfter re im)) (metsAfter re im);
-          history = kept (metsAfter re im) (fromsAfter re im) (turnRead % rowsKept * 2 ^ code .width) (2 ^ code .width) (st .history);
+          pm = normalisedAt (st .turn) (2 ^ code .width) mets;
+          history = kept mets froms (turnRead % rowsKept * 2 ^ code .width) (2 ^ code .width) (st .history);
           count = min (suc countRead) (suc lag);
           turn = suc turnRead % turns;
         }
@@ -105,7 +119,9 @@ module _ (code : ConvCode) (lag : ℕ) where
     unfoldable pub bitBehind : ℕ
     unfolding behind firstLeast
     bitBehind =
-        inputInto smallest code (behind (2 ^ code .width) (st .history) (rowBefore (st .turn % rowsKept)) lag (firstLeast (st .pm) (2 ^ code .width)))
+        let least = firstLeast (st .pm) (2 ^ code .width) in
+        let row = rowBefore (st .turn % rowsKept) in
+        inputInto smallest code (behind (2 ^ code .width) (st .history) row lag least)
 
     -- what the symbol gives: nothing up to the lag, then that bit
     unfoldable pub given : List ℕ

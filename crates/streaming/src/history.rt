@@ -1,10 +1,12 @@
 // The history: survivors kept, and the way back over them.
 ghost use mathlib.Core.Bool.{cond};
 ghost use mathlib.Core.Path.{_≡_};
-ghost use Prim.Native.Nat.{_+_, _/_, _≤_, _<_};
+ghost use Prim.Native.Nat.{_^_, _<_};
+ghost use Rattle.best_path.specs.Run.{inputInto};
 ghost use Rattle.branches.specs.Smallest.{smallest};
-ghost use Rattle.streaming.specs.Stream.{kept, behind};
-ghost use Rattle.streaming.specs.Held.{lag};
+ghost use Rattle.refusal.specs.Lent.{lent};
+ghost use Rattle.trellis.specs.Choice.{k5};
+ghost use Rattle.streaming.specs.Inner.{RowAt, Keeps, InHistory, LiesBehind};
 use crate::LAG;
 use branches::smallest::MARK;
 
@@ -17,8 +19,8 @@ fn survivor(m: f32, new: u8, old: u8) -> u8
 
 // The survivors of the states that a candidate won go to the row from `at` on.
 pub fn keep(pm: &[f32; 16], froms: &[u8; 16], at: usize, history: &mut [u8; 2048])
-    requires { ⌜ at + 16 ≤ 2048 ⌝ }
-    ensures { λ _. ⌜ now (history .exit) ≡ kept (now (pm .entry)) (now (froms .entry)) at 16 (now (history .entry)) ⌝ }
+    requires { ⌜ RowAt at ⌝ }
+    ensures { λ _. ⌜ Keeps (now (pm .entry)) (now (froms .entry)) at (lent history) ⌝ }
 {
     // Lent as slices, the arrays tell their lengths.
     let mets = &pm[..];
@@ -31,10 +33,8 @@ pub fn keep(pm: &[f32; 16], froms: &[u8; 16], at: usize, history: &mut [u8; 2048
 
 // The state that lies the lag behind s, whose survivor stands in a row.
 pub fn state_behind(history: &[u8; 2048], row: usize, s: usize) -> usize
-    requires row { ⌜ row < 128 ⌝ }
-    requires state { ⌜ s < 16 ⌝ }
-    ensures behind { λ r. ⌜ r ≡ behind 16 (now (history .entry)) row lag s ⌝ }
-    ensures state { λ r. ⌜ r < 16 ⌝ }
+    requires { ⌜ InHistory row s ⌝ }
+    ensures { λ r. ⌜ LiesBehind (now (history .entry)) row s r ⌝ }
 {
     // Lent as a slice, the array tells its length.
     let whole = &history[..];
@@ -49,8 +49,8 @@ pub fn state_behind(history: &[u8; 2048], row: usize, s: usize) -> usize
 
 // The input that leads to a state.
 pub fn top_bit(s: usize) -> u8
-    requires { ⌜ s < 16 ⌝ }
-    ensures { λ r. ⌜ r ≡ s / 8 ⌝ }
+    requires { ⌜ s < 2 ^ k5 .width ⌝ }
+    ensures { λ r. ⌜ r ≡ inputInto smallest k5 s ⌝ }
 {
     if s < 8 { 0 } else { 1 }
 }

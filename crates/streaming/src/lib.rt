@@ -1,13 +1,14 @@
 // The streaming decoder: symbol by symbol, each bit 32 symbols late. By value, and in place.
 ghost use mathlib.Core.Path.{_≡_};
 ghost use Prim.Native.Nat.{suc, _+_, _%_, min};
-ghost use lib.ListN.{length};
-ghost use Rattle.refusal.specs.Lent.{leaves};
+ghost use Rattle.refusal.specs.Answer.{Counts};
+ghost use Rattle.refusal.specs.Lent.{lent};
 ghost use Rattle.trellis.specs.Choice.{k5};
-ghost use Rattle.streaming.specs.Stream.{turns, fresh, fed, bitBehind};
-ghost use Rattle.streaming.specs.Flush.{flushGives};
-ghost use Rattle.streaming.specs.Said.{flushSaid};
-ghost use Rattle.streaming.specs.Held.{lag, standing, held, Feeds, FeedsIn, RefusesAt, Steps, Flushes, FlushesIn, Drains};
+ghost use Rattle.streaming.specs.Stream.{turns, bitBehind};
+ghost use Rattle.streaming.specs.Said.{Emits};
+ghost use Rattle.streaming.specs.Decoder.{lag, stateOf, held};
+ghost use Rattle.streaming.specs.Promise.{Begins, Feeds, Flushes};
+ghost use Rattle.streaming.specs.Inner.{RefusesAt, Advances, FeedsLent, FlushesLent};
 
 mod history;
 mod metrics;
@@ -48,7 +49,7 @@ pub struct StreamingViterbi {
 }
 
 // What a symbol gives: a bit, or nothing yet; or a refusal.
-pub enum Heard {
+pub enum Emitted {
     Bit(u8),
     Nothing,
     Refused(Refusal),
@@ -56,13 +57,13 @@ pub enum Heard {
 
 // A symbol's answer, and the decoder after it.
 pub struct Fed {
-    pub answer: Heard,
+    pub answer: Emitted,
     pub decoder: StreamingViterbi,
 }
 
 // The same where the history is lent.
-pub struct Stepped {
-    pub answer: Heard,
+pub struct FedLent {
+    pub answer: Emitted,
     pub front: Front,
 }
 
@@ -73,7 +74,7 @@ pub struct Flushed {
 }
 
 // The same where the history is lent.
-pub struct Drained {
+pub struct FlushedLent {
     pub answer: Counted,
     pub front: Front,
 }
@@ -94,18 +95,18 @@ fn next_turn(turn: u8) -> u8
 }
 
 // Refusal 7: the front as it came.
-fn refused_at(place: u32, front: Front) -> Stepped
+fn refused_at(place: u32, front: Front) -> FedLent
     ensures { λ r. ⌜ RefusesAt place front r ⌝ }
 {
-    Stepped {
-        answer: Heard::Refused(Refusal { number: 7, place }),
+    FedLent {
+        answer: Emitted::Refused(Refusal { number: 7, place }),
         front,
     }
 }
 
 // One symbol: the survivors go to the history, and the front moves on.
 fn advance(front: Front, history: &mut [u8; 2048], re: f32, im: f32) -> Front
-    ensures { λ r. ⌜ standing r (now (history .exit)) ≡ fed k5 lag (standing front (now (history .entry))) re im ⌝ }
+    ensures { λ r. ⌜ Advances front re im r (lent history) ⌝ }
 {
     let old = front.pm;
     let mut pm = old;
@@ -123,7 +124,7 @@ fn advance(front: Front, history: &mut [u8; 2048], re: f32, im: f32) -> Front
 
 // The bit that the last symbol gives, where there is one.
 fn bit_behind(front: Front, history: &[u8; 2048]) -> u8
-    ensures { λ r. ⌜ r ≡ bitBehind k5 lag (standing front (now (history .entry))) ⌝ }
+    ensures { λ r. ⌜ r ≡ bitBehind k5 lag (stateOf front (now (history .entry))) ⌝ }
 {
     let pm = front.pm;
     let least = first_least(&pm);
@@ -132,8 +133,8 @@ fn bit_behind(front: Front, history: &[u8; 2048]) -> u8
 }
 
 // A symbol, where the history is lent.
-fn feed_lent(front: Front, history: &mut [u8; 2048], re: f32, im: f32) -> Stepped
-    ensures { λ r. ⌜ Steps front (now (history .entry)) re im r (now (history .exit)) ⌝ }
+fn feed_lent(front: Front, history: &mut [u8; 2048], re: f32, im: f32) -> FedLent
+    ensures { λ r. ⌜ FeedsLent front re im r (lent history) ⌝ }
 {
     let re_good = f32s::within(re);
     if !re_good {
@@ -145,25 +146,24 @@ fn feed_lent(front: Front, history: &mut [u8; 2048], re: f32, im: f32) -> Steppe
     }
     let next = advance(front, history, re, im);
     if next.count < FULL {
-        return Stepped {
-            answer: Heard::Nothing,
+        return FedLent {
+            answer: Emitted::Nothing,
             front: next,
         };
     }
     let bit = bit_behind(next, history);
-    Stepped {
-        answer: Heard::Bit(bit),
+    FedLent {
+        answer: Emitted::Bit(bit),
         front: next,
     }
 }
 
 // A flush, where the history is lent: as many symbols (0, 0) as a bit comes late.
-fn flush_lent(front: Front, history: &mut [u8; 2048], out: &mut [u8]) -> Drained
-    ensures state { λ r. ⌜ Drains front (now (history .entry)) (length (now (out .entry))) r (now (history .exit)) ⌝ }
-    ensures output { λ _. ⌜ now (out .exit) ≡ leaves (flushSaid k5 lag (standing front (now (history .entry))) (length (now (out .entry)))) (flushGives k5 lag (standing front (now (history .entry))) lag) (now (out .entry)) ⌝ }
+fn flush_lent(front: Front, history: &mut [u8; 2048], out: &mut [u8]) -> FlushedLent
+    ensures { λ r. ⌜ FlushesLent front r (lent history) (lent out) ⌝ }
 {
     if out.len() < LAG {
-        return Drained {
+        return FlushedLent {
             answer: refusal::no_count(4),
             front,
         };
@@ -177,7 +177,7 @@ fn flush_lent(front: Front, history: &mut [u8; 2048], out: &mut [u8]) -> Drained
             written += 1;
         }
     }
-    Drained {
+    FlushedLent {
         answer: Counted::Count(written),
         front: at,
     }
@@ -185,7 +185,7 @@ fn flush_lent(front: Front, history: &mut [u8; 2048], out: &mut [u8]) -> Drained
 
 impl StreamingViterbi {
     pub fn new() -> StreamingViterbi
-        ensures { λ r. ⌜ held r ≡ fresh k5 lag ⌝ }
+        ensures { λ r. ⌜ Begins (held r) ⌝ }
     {
         let mut pm = [MARK; 16];
         pm[0] = 0.0;
@@ -201,7 +201,7 @@ impl StreamingViterbi {
 
     // One symbol: a bit, or nothing up to the lag; or refusal 7, which leaves the decoder as it was.
     pub fn feed_symbol(self, re: f32, im: f32) -> Fed
-        ensures { λ r. ⌜ Feeds self re im r ⌝ }
+        ensures { λ r. ⌜ Feeds (Emits (r .answer)) (held self) (held (r .decoder)) re im ⌝ }
     {
         let mut history = self.history;
         let before = self.front;
@@ -217,8 +217,7 @@ impl StreamingViterbi {
     // As many symbols (0, 0) as a bit comes late. The bits go to the front of out; or refusal 4, which
     // leaves everything as it was.
     pub fn flush(self, out: &mut [u8]) -> Flushed
-        ensures state { λ r. ⌜ Flushes self (length (now (out .entry))) r ⌝ }
-        ensures output { λ _. ⌜ now (out .exit) ≡ leaves (flushSaid k5 lag (held self) (length (now (out .entry)))) (flushGives k5 lag (held self) lag) (now (out .entry)) ⌝ }
+        ensures { λ r. ⌜ Flushes (Counts (r .answer)) (held self) (held (r .decoder)) (lent out) ⌝ }
     {
         let mut history = self.history;
         let before = self.front;
@@ -233,8 +232,8 @@ impl StreamingViterbi {
 }
 
 // In place, for a host that keeps one decoder: the history is lent, the rest is copied out and stored back.
-pub fn feed(d: &mut StreamingViterbi, re: f32, im: f32) -> Heard
-    ensures { λ r. ⌜ FeedsIn (now (d .entry)) re im r (now (d .exit)) ⌝ }
+pub fn feed(d: &mut StreamingViterbi, re: f32, im: f32) -> Emitted
+    ensures { λ r. ⌜ Feeds (Emits r) (held (now (d .entry))) (held (now (d .exit))) re im ⌝ }
 {
     let s = feed_lent(d.front, &mut d.history, re, im);
     d.front = s.front;
@@ -243,8 +242,7 @@ pub fn feed(d: &mut StreamingViterbi, re: f32, im: f32) -> Heard
 
 // The same of a flush: the output is passed on.
 pub fn flush(d: &mut StreamingViterbi, out: &mut [u8]) -> Counted
-    ensures state { λ r. ⌜ FlushesIn (now (d .entry)) (length (now (out .entry))) r (now (d .exit)) ⌝ }
-    ensures output { λ _. ⌜ now (out .exit) ≡ leaves (flushSaid k5 lag (held (now (d .entry))) (length (now (out .entry)))) (flushGives k5 lag (held (now (d .entry))) lag) (now (out .entry)) ⌝ }
+    ensures { λ r. ⌜ Flushes (Counts r) (held (now (d .entry))) (held (now (d .exit))) (lent out) ⌝ }
 {
     let s = flush_lent(d.front, &mut d.history, out);
     d.front = s.front;

@@ -1,12 +1,11 @@
 // The metrics of a symbol: add, compare, select; and normalisation.
-ghost use mathlib.Core.List.{_++_};
 ghost use mathlib.Core.Path.{_≡_};
-ghost use Prim.Native.Nat.{_≤_};
-ghost use lib.ListN.{length, drop};
-ghost use Rattle.symbols.specs.Inner.{newMets, newFroms};
+ghost use Prim.Native.Nat.{_^_, _≤_};
+ghost use lib.ListN.{length};
+ghost use Rattle.refusal.specs.Lent.{lent};
 ghost use Rattle.trellis.specs.Choice.{k5};
 ghost use Rattle.streaming.specs.Stream.{leastOf, lowered, normalised};
-ghost use Rattle.streaming.specs.Held.{NormalisedAfter};
+ghost use Rattle.streaming.specs.Inner.{SelectsNew, NormalisedAfter};
 use crate::Front;
 use crate::sent::SENT0;
 use crate::sent::SENT1;
@@ -15,9 +14,8 @@ use symbols::forward_pass::step;
 
 // One symbol: the new metrics go to next, the survivors to the front of froms.
 pub fn select(re: f32, im: f32, pm: &[f32; 16], next: &mut [f32; 16], froms: &mut [u8])
-    requires { ⌜ 16 ≤ length (now froms) ⌝ }
-    ensures mets { λ _. ⌜ now (next .exit) ≡ newMets k5 (now (pm .entry)) re im ⌝ }
-    ensures froms { λ _. ⌜ now (froms .exit) ≡ newFroms k5 (now (pm .entry)) re im ++ drop 16 (now (froms .entry)) ⌝ }
+    requires { ⌜ 2 ^ k5 .width ≤ length (now froms) ⌝ }
+    ensures { λ _. ⌜ SelectsNew (now (pm .entry)) re im (lent next) (lent froms) ⌝ }
 {
     let c0 = SENT0;
     let c1 = SENT1;
@@ -26,7 +24,7 @@ pub fn select(re: f32, im: f32, pm: &[f32; 16], next: &mut [f32; 16], froms: &mu
 
 // The least reachable metric, and the mark where none is reachable.
 fn least_of(pm: &[f32; 16]) -> f32
-    ensures { λ r. ⌜ r ≡ leastOf (now (pm .entry)) 16 ⌝ }
+    ensures { λ r. ⌜ r ≡ leastOf (now (pm .entry)) (2 ^ k5 .width) ⌝ }
 {
     // Lent as a slice, the array tells its length.
     let whole = &pm[..];
@@ -46,7 +44,7 @@ fn lower(least: f32, m: f32) -> f32
 
 // The least reachable metric, if above 0, is subtracted from each reachable one.
 fn subtract_least(pm: &mut [f32; 16])
-    ensures { λ _. ⌜ now (pm .exit) ≡ normalised 16 (now (pm .entry)) ⌝ }
+    ensures { λ _. ⌜ now (pm .exit) ≡ normalised (2 ^ k5 .width) (now (pm .entry)) ⌝ }
 {
     // Lent as a slice, the array tells its length.
     let whole = &pm[..];

@@ -38,8 +38,8 @@ shared-slice-read-feed-symbol-2 c = search needs
 feed-symbol-requires : tie.Need-feed-symbol-requires Inv-loop μ-loop
 feed-symbol-requires c κs = search needs
 
-heard-number-requires : tie.Need-heard-number-requires Inv-loop μ-loop
-heard-number-requires c κs = search needs
+emitted-number-requires : tie.Need-emitted-number-requires Inv-loop μ-loop
+emitted-number-requires c κs = search needs
 
 put-number-requires : tie.Need-put-number-requires Inv-loop μ-loop
 put-number-requires c κs = search needs
@@ -74,7 +74,7 @@ feed-all-spec =
     mul-feed-symbol-4
     shared-slice-read-feed-symbol-2
     feed-symbol-requires
-    heard-number-requires
+    emitted-number-requires
     put-number-requires
     add-i
     loop-less

@@ -1,14 +1,12 @@
 -- `StreamingViterbi::feed_symbol`: the history is lent and comes back. Assumes nothing.
+use borrow.Author.Needs.{needs}
 use Rattle.streaming.proofs.StreamingViterbi.feed_symbol.Statement.{statement}
 use Rattle.streaming.proofs.StreamingViterbi.feed_symbol.Tie as tie
 
-feed-lent-requires : tie.Need-feed-lent-requires
-feed-lent-requires c κs = tt
-
 returns : tie.Need-returns
 returns c =
-    let stepped = c .before .feed-lent .ensures in
-    record { answer = stepped .answer; state = stepped .state }
+    let fed : tie.After-feed-lent = search in
+    fed .feed-lent .ensures
 
 pub feed-symbol-spec : {M : Type 1} → statement M
-feed-symbol-spec = tie.close (tie.spec feed-lent-requires returns)
+feed-symbol-spec = tie.close (tie.spec (search needs) returns)

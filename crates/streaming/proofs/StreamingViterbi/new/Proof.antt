@@ -6,12 +6,9 @@ use Rattle.streaming.specs.Stream.{fresh}
 use Rattle.streaming.proofs.StreamingViterbi.new.Statement.{statement}
 use Rattle.streaming.proofs.StreamingViterbi.new.Tie as tie
 
-array-write-pm : tie.Need-array-write-pm
-array-write-pm c = search needs
-
 returns : tie.Need-returns
 unfolding ofBits fresh
-returns c = refl
+returns c = record { state = refl }
 
 pub new-spec : {M : Type 1} → statement M
-new-spec = tie.close (tie.spec array-write-pm returns)
+new-spec = tie.close (tie.spec (search needs) returns)
