@@ -21,7 +21,8 @@ abbrev lineAt : ℕ → Line
 lineAt n = getD sheet n (reads [] [])
 
 pub claim : AllHold sheet
-unfolding agreement codeword codeOf patternOf lettersFrom streamFrom word score wordOf decodeOf bitsOf ones nextState ofBits add sub neg lt le
+unfolding agreement codeword codeOf patternOf lettersFrom streamFrom word score wordOf decodeOf bitsOf ones nextState ofBits add sub neg lt
+    le
 claim =
     more (holds (lineAt 0) refl)
     (more (holds (lineAt 1) refl)

@@ -27,7 +27,8 @@ Passes (lengths code count atRates) =
     same (map (λ (rate : ℕ). codedLength (patternOf code rate) (stepsOf (codeOf code) count)) (0 ∷ 1 ∷ 2 ∷ 3 ∷ 4 ∷ [])) atRates ≡ true
 Passes (decodes code rate heard bits) = same (word (codeOf code) (patternOf code rate) heard (length bits)) bits ≡ true
 Passes (scores code rate count heard is) = score (codeOf code) (patternOf code rate) heard count ≡ is
-Passes (ties code rate count whole u v) = scoreOf (codeOf code) (patternOf code rate) count u whole ≡ scoreOf (codeOf code) (patternOf code rate) count v whole
+Passes (ties code rate count whole u v) =
+    scoreOf (codeOf code) (patternOf code rate) count u whole ≡ scoreOf (codeOf code) (patternOf code rate) count v whole
 Passes (writes text bits) = same (streamFrom true (map byte text)) bits ≡ true
 Passes (reads bits text) = same (lettersFrom nothingHeard bits) text ≡ true
 

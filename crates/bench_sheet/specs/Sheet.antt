@@ -30,11 +30,13 @@ pub data Line : Type 0 where
 abbrev pub Holds : Line → Type 0
 Holds (coded code rate info bits) = codeword (codeOf code) (patternOf code rate) info ≡ bits
 Holds (lengths code count atRates) =
-    map (λ (rate : ℕ). codedLength (patternOf code rate) (stepsOf (codeOf code) count)) (0 ∷ 1 ∷ 2 ∷ 3 ∷ 4 ∷ []) ≡ atRates
+    map (λ (rate : ℕ). codedLength (patternOf code rate) (stepsOf (codeOf code) count)) (0 ∷ 1 ∷ 2 ∷ 3 ∷ 4 ∷ [])
+    ≡ atRates
 Holds (decodes code rate heard bits) = word (codeOf code) (patternOf code rate) heard (length bits) ≡ bits
 Holds (scores code rate count heard is) = score (codeOf code) (patternOf code rate) heard count ≡ is
 Holds (ties code rate count whole u v) =
-    scoreOf (codeOf code) (patternOf code rate) count u whole ≡ scoreOf (codeOf code) (patternOf code rate) count v whole
+    scoreOf (codeOf code) (patternOf code rate) count u whole
+    ≡ scoreOf (codeOf code) (patternOf code rate) count v whole
 Holds (writes text bits) = streamFrom true (map byte text) ≡ bits
 Holds (reads bits text) = lettersFrom nothingHeard bits ≡ text
 

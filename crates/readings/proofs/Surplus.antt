@@ -69,7 +69,8 @@ module _ (code rate info : ℕ) (readings : List Float) (room scratch n : ℕ) (
 
   pub surplus-output :
       (old : List ℕ) →
-      leaves (decodeSaid code rate info (take n readings) room scratch) (word (codeOf code) (patternOf code rate) (take n readings) info) old
+      leaves (decodeSaid code rate info (take n readings) room scratch) (word (codeOf code) (patternOf code rate) (take n readings) info)
+      old
       ≡ leaves (decodeSaid code rate info readings room scratch) (word (codeOf code) (patternOf code rate) readings info) old
   surplus-output old =
       surplus-leaves _ _ old (λ h. word-taken soft (codeOf code) (patternOf code rate) (rate-pattern code rate) readings n info (within h))
