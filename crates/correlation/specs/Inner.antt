@@ -1,5 +1,6 @@
 -- What the inner functions of a decoder of readings ask and ensure, for any kind of decoder. Definitions only.
 use mathlib.Core.List.{List, _++_}
+use mathlib.Core.Logic.{_⊎_}
 use mathlib.Core.Path.{_≡_}
 use Prim.Native.Nat.{ℕ, _*_, _^_, _≤_}
 use lib.ListN.{length, getD, drop}
@@ -21,7 +22,16 @@ pub record Steppable (code : ConvCode) (half : ℕ) (c0 c1 row : List ℕ) : Typ
   pub crossed : Crossed code half c0 c1
   pub room : 2 * half ≤ length row
 
--- `step`: from the metrics `old` the new ones stand over the front of `next`, the survivors over that of `row`
+-- as many states as a decoder's loop is compiled for: 16 or 64, by half of them
+abbrev pub Compiled : (half : ℕ) → Type 0
+Compiled half = (half ≡ 8) ⊎ (half ≡ 32)
+
+-- `step_of`: the same, for one of these
+pub record SteppableOf (code : ConvCode) (half : ℕ) (c0 c1 row : List ℕ) : Type 0 where
+  pub ready : Steppable code half c0 c1 row
+  pub compiled : Compiled half
+
+-- `step`, `step_of`: from the metrics `old` the new ones stand over the front of `next`, the survivors over that of `row`
 pub record Selects
     {A M : Type 0} (kind : Kind A M) (code : ConvCode) (old : ℕ → M) (a b : A) (next : Lent M) (row : Lent ℕ)
     : Type 0 where
@@ -33,6 +43,7 @@ pub record Selects
 -- `forward`: a code and a keep pattern as the code holds them, and room for the survivors of the steps
 pub record Runnable (code : ConvCode) (half : ℕ) (keep : KeepPattern) (steps : ℕ) (rows : List ℕ) : Type 0 where
   pub shape : Halved code half
+  pub compiled : Compiled half
   pub pattern : Rows keep
   pub few : steps ≤ 65536
   pub room : steps * (2 * half) ≤ length rows
@@ -49,6 +60,7 @@ pub record Runs
 -- `decode`: a code and a keep pattern as the code holds them, and room for the word and the survivors
 pub record Decodable (code : ConvCode) (half : ℕ) (keep : KeepPattern) (info : ℕ) (out scratch : List ℕ) : Type 0 where
   pub shape : Halved code half
+  pub compiled : Compiled half
   pub pattern : Rows keep
   pub few : info ≤ most
   pub room : info ≤ length out

@@ -1,5 +1,6 @@
 -- What the code and rate numbers select is what a decoding asks. Assumes nothing.
 use mathlib.Core.List.{List}
+use mathlib.Core.Logic.{inl, inr, ⊎-elim}
 use mathlib.Core.Path.{_≡_, ap, ap₂, _∙_}
 use Prim.Native.Nat.{ℕ, _+_, _-_, _*_, _^_, _≤_}
 use native.Mathlib.Nat.{mul-le-mul-right}
@@ -7,7 +8,7 @@ use native.Mathlib.Omega.{arith}
 use lib.Ieee.{Float}
 use lib.ListN.{length}
 use lib.Pow.{pow-mono}
-use Rattle.correlation.specs.Inner.{Decodable}
+use Rattle.correlation.specs.Inner.{Compiled, Decodable}
 use Rattle.encoder.proofs.Selected.{chosen-narrow, chosen-rows, keep-chosen, length-chosen}
 use Rattle.encoder.specs.Encode.{codedLengthOf}
 use Rattle.refusal.specs.Lent.{Lent}
@@ -18,13 +19,18 @@ use Rattle.trellis.specs.Choice.{k7, codeOf, keepOf}
 use Rattle.trellis.specs.Codeword.{stepsOf}
 use Rattle.trellis.specs.Keep.{codedLength}
 use Rattle.trellis.specs.Post.{Chooses, Halved}
-use Rattle.trellis.proofs.Chosen.{code-width, code-narrow, code-ends}
+use Rattle.trellis.proofs.Chosen.{code-width, code-sized, code-narrow, code-ends}
 use Rattle.trellis.proofs.States.{states-two-halves}
 use Rattle.readings.specs.Inner.{Finds, FindsAt, Usable, UsedOf}
 use Rattle.readings.specs.Said.{survivorsOf}
 
 pub code-few : (n : ℕ) → 2 ^ (codeOf n .width - 1) ≤ 32
 code-few n = pow-mono {j = 5} (omega (arith, code-width n))
+
+-- the loop is compiled for K5's states and for K7's
+pub code-compiled : (n : ℕ) {half : ℕ} → half ≡ 2 ^ (codeOf n .width - 1) → Compiled half
+code-compiled n e =
+    ⊎-elim (λ w. inl (e ∙ ap (λ (width : ℕ). 2 ^ (width - 1)) w)) (λ w. inr (e ∙ ap (λ (width : ℕ). 2 ^ (width - 1)) w)) (code-sized n)
 
 module _ (code half : ℕ) (of-half : half ≡ 2 ^ (codeOf code .width - 1)) where
   pub code-halved : Halved (codeOf code) half
@@ -75,6 +81,7 @@ module _ {code rate : ℕ} {chosen : Selected} (is : Chooses code rate chosen) w
     chosen-decodable few room rows =
         record {
           shape = rw (is .taps) (code-halved code half of-half);
+          compiled = code-compiled code of-half;
           pattern = chosen-rows is;
           few = few;
           room = room;

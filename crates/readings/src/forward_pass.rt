@@ -3,7 +3,7 @@ ghost use mathlib.Core.Bool.{cond};
 ghost use mathlib.Core.Path.{_≡_};
 ghost use Prim.Native.Nat.{_+_, _*_, _<_};
 ghost use lib.Dec.{eqb};
-ghost use Rattle.correlation.specs.Inner.{Steppable, Runnable};
+ghost use Rattle.correlation.specs.Inner.{Steppable, SteppableOf, Runnable};
 ghost use Rattle.refusal.specs.Lent.{lent};
 ghost use Rattle.trellis.specs.Choice.{keepOf};
 ghost use Rattle.trellis.specs.Places.{filled};
@@ -47,6 +47,28 @@ fn step(
         row[n] = low.from;
         row[n + half] = high.from;
         s += 2;
+    }
+}
+
+// The same with half a constant, 32 or 8: so the compiler unrolls the turns and keeps the metrics where they are.
+fn step_of(
+    code: ConvCode,
+    half: usize,
+    c0: &[u32; 32],
+    c1: &[u32; 32],
+    a: f32,
+    b: f32,
+    pm: &[f32; 64],
+    next: &mut [f32; 64],
+    row: &mut [u8],
+)
+    requires { ⌜ SteppableOf code half (now c0) (now c1) (now row) ⌝ }
+    ensures { λ _. ⌜ Selects code (now (pm .entry)) a b (lent next) (lent row) ⌝ }
+{
+    if half == 32 {
+        step(code, 32, c0, c1, a, b, pm, next, row);
+    } else {
+        step(code, 8, c0, c1, a, b, pm, next, row);
     }
 }
 
@@ -100,7 +122,7 @@ pub fn forward(
         at = after(row0[column], at);
         let b = read(row1[column], readings, at);
         at = after(row1[column], at);
-        step(code, half, &c0, &c1, a, b, &pm, &mut next, &mut rows[to..]);
+        step_of(code, half, &c0, &c1, a, b, &pm, &mut next, &mut rows[to..]);
         pm = next;
         to += states;
         column = trellis::next_column(column, period);

@@ -1,7 +1,8 @@
 -- What holds of every code and keep pattern that numbers select: so much the laws over any of them ask. Each entry of
 -- the table is tried by computing, so a further entry needs no line here. Assumes nothing.
-use mathlib.Core.Bool.{Bool, true, false, _&&_}
+use mathlib.Core.Bool.{Bool, true, false, cond, _&&_}
 use mathlib.Core.List.{List, [], _∷_, _++_}
+use mathlib.Core.Logic.{_⊎_, inl, inr}
 use mathlib.Core.Path.{_≡_, refl, sym, ap, ap₂, subst, _∙_}
 use Prim.Native.Nat.{ℕ, zero, suc, _+_, _-_, _*_, _%_, _^_, _≤_, _<_}
 use native.Mathlib.Nat.{div-one, mod-one}
@@ -98,6 +99,18 @@ coding-sound code = sound-entry (codingOf code) (every-at sound codings code _ r
 pub code-width : (code : ℕ) → codeOf code .width ≤ k7 .width
 unfolding codeOf
 code-width code = coding-sound code .narrow
+
+-- every code has K5's width or K7's
+abbrev sized : Coding → Bool
+sized coding = cond (eqb (coding .code .width) (k5 .width)) true (eqb (coding .code .width) (k7 .width))
+
+either : (w m n : ℕ) (b : Bool) → eqb w m ≡ b → cond b true (eqb w n) ≡ true → (w ≡ m) ⊎ (w ≡ n)
+either w m n true f e = inl (eqb-true w m f)
+either w m n false f e = inr (eqb-true w n e)
+
+pub code-sized : (code : ℕ) → (codeOf code .width ≡ k5 .width) ⊎ (codeOf code .width ≡ k7 .width)
+unfolding codeOf codingOf every
+code-sized code = either _ _ _ _ refl (every-at sized codings code _ refl refl)
 
 pub code-narrow : (code : ℕ) → Narrow (codeOf code)
 unfolding codeOf

@@ -5,6 +5,17 @@ use Rattle.correlation.proofs.Rows.{some-states, way-walkable, way-finds}
 use Rattle.readings.proofs.decode.Statement.{statement}
 use Rattle.readings.proofs.decode.Tie as tie
 
+forward-requires : tie.Need-forward-requires
+forward-requires c κs =
+    let start : tie.Start = search in
+    record {
+      shape = start .pre .shape;
+      compiled = start .pre .compiled;
+      pattern = start .pre .pattern;
+      few = omega (arith, start .pre .few, start .pre .shape .held .narrow);
+      room = start .pre .rows;
+    }
+
 trace-requires : tie.Need-trace-requires
 trace-requires c κs =
     let ran : tie.After-forward = search in
@@ -20,4 +31,4 @@ returns c =
 
 pub decode-spec : {M : Type 1} → statement M
 decode-spec =
-    tie.close (tie.spec (search needs) (search needs) trace-requires (search needs) (search needs) returns)
+    tie.close (tie.spec (search needs) forward-requires trace-requires (search needs) (search needs) returns)

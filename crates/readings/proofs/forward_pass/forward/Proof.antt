@@ -38,7 +38,7 @@ abbrev End : Type 0
 End = tie.After-after2 Inv-loop μ-loop
 
 abbrev Selected : Type 0
-Selected = tie.After-step Inv-loop μ-loop
+Selected = tie.After-step-of Inv-loop μ-loop
 
 sent-by-even-requires : tie.Need-sent-by-even-requires Inv-loop μ-loop
 sent-by-even-requires c κs =
@@ -87,24 +87,27 @@ after-requires-2 c κs =
       middle-few (head .loop .inv) (turn .loop-test .taken) (first .read .ensures) (middle .after .ensures),
     )
 
-sub-step : tie.Need-sub-step Inv-loop μ-loop
-sub-step c =
+sub-step-of : tie.Need-sub-step-of Inv-loop μ-loop
+sub-step-of c =
     let turn : Turn = search in
     let head : Head = search in
     omega (arith, row-within (head .loop .inv) (turn .loop-test .taken))
 
-part-step-start : tie.Need-part-step-start Inv-loop μ-loop
-part-step-start c =
+part-step-of-start : tie.Need-part-step-of-start Inv-loop μ-loop
+part-step-of-start c =
     let turn : Turn = search in
     let head : Head = search in
     omega (arith, row-within (head .loop .inv) (turn .loop-test .taken))
 
-step-requires : tie.Need-step-requires Inv-loop μ-loop
-step-requires c κs =
+step-of-requires : tie.Need-step-of-requires Inv-loop μ-loop
+step-of-requires c κs =
     let turn : Turn = search in
     let head : Head = search in
     let within = row-within (head .loop .inv) (turn .loop-test .taken) in
-    record { crossed = head .loop .inv .crossed; room = simp (length-take, length-drop) (omega (arith, within)) }
+    record {
+      ready = record { crossed = head .loop .inv .crossed; room = simp (length-take, length-drop) (omega (arith, within)) };
+      compiled = head .loop .inv .ready .compiled;
+    }
 
 add-to : tie.Need-add-to Inv-loop μ-loop
 add-to c =
@@ -133,7 +136,7 @@ loop-again c =
     let turn : Turn = search in
     let head : Head = search in
     forwarded-goes-on (head .loop .inv) (turn .loop-test .taken) (first .read .ensures) (middle .after .ensures)
-    (second .read2 .ensures) (end .after2 .ensures) (selected .step .ensures) (omega arith) (c .next-column .ensures)
+    (second .read2 .ensures) (end .after2 .ensures) (selected .step-of .ensures) (omega arith) (c .next-column .ensures)
 
 same-length : tie.Need-same-length Inv-loop μ-loop
 same-length c = rows-sized (c .before .loop .inv)
@@ -148,6 +151,6 @@ forward-spec =
     sent-by-even-requires (search needs) (search needs) loop-holds
     array-read-read (search needs) array-read-after after-requires
     array-read-read-2 (search needs) array-read-after-2 after-requires-2
-    sub-step part-step-start (search needs) step-requires
+    sub-step-of part-step-of-start (search needs) step-of-requires
     add-to next-column-requires add-t (search needs) loop-again
     (search needs) same-length returns)
