@@ -1,5 +1,5 @@
--- Whole numbers as a metric: the way back from a state is the best word that leads there, and its total is what that word gains; a state without
--- a total is one that no word leads to. By induction over the steps. Assumes nothing.
+-- Whole numbers as a metric: the way back from a state is the best word that leads there, and its total is what that word
+-- gains; a state without a total is one that no word leads to. By induction over the steps. Assumes nothing.
 use mathlib.Core.Bool.{Bool, true, false, cond}
 use mathlib.Core.List.{List, [], _∷_, _++_}
 use mathlib.Core.Logic.{inl, inr, ⊎-elim}
@@ -59,7 +59,9 @@ module _
       }
 
   -- the words from its own state
-  over-own : {s : ℕ} {v : List ℕ} {z : ℤ} → Best code gains t s v z → (w : List ℕ) → Leads code t s w → Beats code gains (suc t) (v ++ b ∷ []) (w ++ b ∷ [])
+  over-own :
+      {s : ℕ} {v : List ℕ} {z : ℤ} → Best code gains t s v z → (w : List ℕ) → Leads code t s w →
+      Beats code gains (suc t) (v ++ b ∷ []) (w ++ b ∷ [])
   over-own h w q = same-beats code gains b (h .leads) q (h .best w q)
 
   abbrev FoundAt : Cell Total → Type 0
@@ -70,7 +72,8 @@ module _
       {x y : ℤ} (q : Bool) → ltZ (x +ℤ gains t (2 * k) b) (y +ℤ gains t (2 * k + 1) b) ≡ q →
       Best code gains t (2 * k) (word (2 * k)) x → Best code gains t (2 * k + 1) (word (2 * k + 1)) y →
       FoundAt
-      (cond q (record { met = total (y +ℤ gains t (2 * k + 1) b); from = 2 * k + 1 }) (record { met = total (x +ℤ gains t (2 * k) b); from = 2 * k }))
+      (cond q (record { met = total (y +ℤ gains t (2 * k + 1) b); from = 2 * k + 1 })
+      (record { met = total (x +ℤ gains t (2 * k) b); from = 2 * k }))
   found-better true e lo hi = best-longer hi upper-next (λ w q. more-beats code gains b hi lo e q) (over-own hi)
   found-better false e lo hi =
       best-longer lo lower-next (over-own lo)
@@ -173,5 +176,7 @@ module _ (code : ConvCode) (some : 0 < code .width) (gains : ℕ → ℕ → ℕ
   not-reached t s h e = rw e at (found t s h)
 
   -- and the way back from a state with a total is the best word that leads there
-  pub best-path : (t s : ℕ) (z : ℤ) → s < 2 ^ code .width → getD (mets t) s none ≡ total z → Best code gains t s (traced wholes code froms t s) z
+  pub best-path :
+      (t s : ℕ) (z : ℤ) → s < 2 ^ code .width → getD (mets t) s none ≡ total z →
+      Best code gains t s (traced wholes code froms t s) z
   best-path t s z h e = rw e at (found t s h)

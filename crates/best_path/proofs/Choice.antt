@@ -24,14 +24,17 @@ module _ (code : ConvCode) (gains : ℕ → ℕ → ℕ → ℤ) (b : ℕ) where
         beats =
             rw (longer-gained code b p gains, longer-gained code b q gains, longer-passes code b p, longer-passes code b q)
             (⊎-elim (λ k. inl (ltZ-add (gained code gains w t) (gained code gains v t) (gains t s b) ∙ k))
-            (λ e. inr
-            (ap (λ (z : ℤ). z +ℤ gains t s b) (e .0), ⊎-elim (λ q. inl (ap (λ (u : List ℕ). u ++ b ∷ []) q)) (λ a. inr (inr (refl, a))) (e .1)))
+            (λ e. inr (
+              ap (λ (z : ℤ). z +ℤ gains t s b) (e .0),
+              ⊎-elim (λ q. inl (ap (λ (u : List ℕ). u ++ b ∷ []) q)) (λ a. inr (inr (refl, a))) (e .1),
+            ))
             (h .beats));
       }
 
   -- before the first step there is one state only
   lower-state :
-      (t : ℕ) {s r : ℕ} (v w : List ℕ) → stateAfter code v t ≡ s → stateAfter code w t ≡ r → s < r → Ahead (passes code v t) (passes code w t)
+      (t : ℕ) {s r : ℕ} (v w : List ℕ) → stateAfter code v t ≡ s → stateAfter code w t ≡ r → s < r →
+      Ahead (passes code v t) (passes code w t)
   unfolding Ahead passes stateAfter
   lower-state zero v w f g h = absurd (omega arith)
   lower-state (suc t) v w f g h = inl (omega arith)
@@ -50,7 +53,8 @@ module _ (code : ConvCode) (gains : ℕ → ℕ → ℕ → ℤ) (b : ℕ) where
       AtMost (gained code gains (w ++ b ∷ []) (suc t)) (z +ℤ gains t s b)
   gained-at-most {t} {s} {v} {w} {z} h q =
       rw (longer-gained code b q gains, ← h .gains-it)
-      (⊎-elim (λ k. inl (ltZ-add (gained code gains w t) (gained code gains v t) (gains t s b) ∙ k)) (λ e. inr (ap (λ (z : ℤ). z +ℤ gains t s b) (e .0)))
+      (⊎-elim (λ k. inl (ltZ-add (gained code gains w t) (gained code gains v t) (gains t s b) ∙ k))
+      (λ e. inr (ap (λ (z : ℤ). z +ℤ gains t s b) (e .0)))
       (h .best w q .beats))
 
   pub best-gained :
@@ -67,7 +71,8 @@ module _ (code : ConvCode) (gains : ℕ → ℕ → ℕ → ℤ) (b : ℕ) where
 
   -- and every word from a higher state whose best one does not come to more
   pub lower-beats :
-      {t s r : ℕ} {v u w : List ℕ} {x y : ℤ} → Best code gains t s v x → Best code gains t r u y → s < r → nextState code s b ≡ nextState code r b →
+      {t s r : ℕ} {v u w : List ℕ} {x y : ℤ} → Best code gains t s v x → Best code gains t r u y → s < r →
+      nextState code s b ≡ nextState code r b →
       ltZ (x +ℤ gains t s b) (y +ℤ gains t r b) ≡ false → Leads code t r w → Beats code gains (suc t) (v ++ b ∷ []) (w ++ b ∷ [])
   lower-beats {t} {s} {r} {v} {u} {w} {x} {y} h k lower e no-more q =
       record {

@@ -41,7 +41,8 @@ module _ {M B : Type 0} (op : Metric M B) (code : ConvCode) (gains : ℕ → ℕ
     pub held-next : 0 < code .width → (next rest : List M) → next ≡ map (λ (c : Cell M). c .met) stepped ++ rest → Held next (t + 1)
     held-next some next rest e s h =
         let after = metsAfter op code gains start (t + 1) in
-        let sized : length after ≡ 2 ^ code .width = ap (λ (n : ℕ). length (metsAfter op code gains start n)) (add-one t) ∙ length-mets op code some gains start t in
+        let sized : length after ≡ 2 ^ code .width =
+        ap (λ (n : ℕ). length (metsAfter op code gains start n)) (add-one t) ∙ length-mets op code some gains start t in
         let within : s < length after = omega (arith, sized, h) in
         ap (λ (l : List M). getD l s d) (e ∙ ap (λ (l : List M). l ++ rest) held-mets) ∙ List·getD-append after rest d s within
         ∙ any-default after s d (op .mark) within

@@ -48,7 +48,8 @@ module _ (code : ConvCode) (some : 0 < code .width) (w : List ℕ) (are : Inputs
       let bound : 2 ^ i ≤ 2 ^ (code .width - 1) = pow-mono (omega arith) in
       let last : getD w (t + j) 0 ≡ 0 = input-zero (getD w (t + j) 0) (at (t + j) / 2) (are (t + j)) (omega arith) in
       let before : at (t + j) < 2 ^ suc i = rw (pow-succ' 2 i) (omega arith) in
-      ⊎-elim (λ e. ap (λ (n : ℕ). getD w (t + n) 0) (omega arith) ∙ last) (λ m. halved-zeros t j (suc i) (omega arith) before l (omega arith))
+      ⊎-elim (λ e. ap (λ (n : ℕ). getD w (t + n) 0) (omega arith) ∙ last)
+      (λ m. halved-zeros t j (suc i) (omega arith) before l (omega arith))
       (eq-or-lt-of-le k)
 
 -- ---- zero tails
@@ -122,7 +123,9 @@ module _ (code : ConvCode) (some : 0 < code .width) (gains : ℕ → ℕ → ℕ
 
   -- state 0 is reached, by zeros at least, and the way back from it is the best info word with its tail
   pub best-info-word :
-      (z : ℤ) × BestInfo code gains info (take info (traced wholes code (survivors wholes code gains (startedWhole code)) (stepsOf code info) 0)) z
+      (z : ℤ)
+      × BestInfo code gains info
+      (take info (traced wholes code (survivors wholes code gains (startedWhole code)) (stepsOf code info) 0)) z
   best-info-word = by last refl
     where
       by : (m : Total) → last ≡ m → (z : ℤ) × BestInfo code gains info (take info way) z

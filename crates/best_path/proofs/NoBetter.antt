@@ -1,4 +1,5 @@
--- No branch out of a reached state is better than the metric of the state that it leads to. Over any metric whose `better` is a strict order. Assumes nothing.
+-- No branch out of a reached state is better than the metric of the state that it leads to. Over any metric whose `better`
+-- is a strict order. Assumes nothing.
 use mathlib.Core.Bool.{Bool, true, false, cond}
 use mathlib.Core.Path.{_≡_, refl, sym, subst, _∙_}
 use Prim.Native.Nat.{ℕ, zero, suc, _+_, _*_, _/_, _%_, _^_, _<_}
@@ -15,21 +16,26 @@ module _
     {M B : Type 0} (op : Metric M B) (trans : (x y z : M) → op .better x y ≡ true → op .better y z ≡ true → op .better x z ≡ true)
     (irrefl : (x : M) → op .better x x ≡ false) where
   -- what is not better than the best so far is not better than what replaces that
-  still-no-better : (x : M) (z : Cell M) (m : M) (g : B) (s : ℕ) → op .better x (z .met) ≡ false → op .better x (relaxed op z m g s .met) ≡ false
+  still-no-better :
+      (x : M) (z : Cell M) (m : M) (g : B) (s : ℕ) → op .better x (z .met) ≡ false →
+      op .better x (relaxed op z m g s .met) ≡ false
   unfolding relaxed
   still-no-better x z m g s h = go (op .reached m) (op .better y (z .met)) (op .better x y) refl refl
     where
       y : M
       y = op .add m g
 
-      go : (p q r : Bool) → op .better y (z .met) ≡ q → op .better x y ≡ r → op .better x (cond p (cond q (record { met = y; from = s }) z) z .met) ≡ false
+      go :
+          (p q r : Bool) → op .better y (z .met) ≡ q → op .better x y ≡ r →
+          op .better x (cond p (cond q (record { met = y; from = s }) z) z .met) ≡ false
       go true true true e f = f ∙ sym (trans x y (z .met) f e) ∙ h
       go true true false e f = f
       go true false r e f = h
       go false q r e f = h
 
   -- a branch out of a reached state is not better than what it was compared with, or has replaced that
-  itself-no-better : (z : Cell M) (m : M) (g : B) (s : ℕ) → op .reached m ≡ true → op .better (op .add m g) (relaxed op z m g s .met) ≡ false
+  itself-no-better :
+      (z : Cell M) (m : M) (g : B) (s : ℕ) → op .reached m ≡ true → op .better (op .add m g) (relaxed op z m g s .met) ≡ false
   unfolding relaxed
   itself-no-better z m g s r = rw r (go (op .better y (z .met)) refl)
     where
@@ -69,4 +75,5 @@ module _
     unfolding nextState
     step-no-better s i h hi g =
         let two = states-two-halves code some in
-        rw (step-best op code some old gain (s / 2) i (omega (arith, two)) hi) (best-no-better (s / 2) i s (s % 2) (omega arith) (omega arith) g)
+        rw (step-best op code some old gain (s / 2) i (omega (arith, two)) hi)
+        (best-no-better (s / 2) i s (s % 2) (omega arith) (omega arith) g)

@@ -1,5 +1,5 @@
--- The order of whole numbers, as the test `ltZ`: transitive, total, kept by a sum, and turned round by a negative. And the tie rule's order of states:
--- no two lists are each ahead of the other. Assumes nothing.
+-- The order of whole numbers, as the test `ltZ`: transitive, total, kept by a sum, and turned round by a negative. And the
+-- tie rule's order of states: no two lists are each ahead of the other. Assumes nothing.
 use mathlib.Core.Bool.{Bool, true, false}
 use mathlib.Core.List.{List, [], _∷_}
 use mathlib.Core.Logic.{_⊎_, inl, inr, ⊎-elim}
@@ -9,7 +9,8 @@ use native.Mathlib.Nat.{eq-or-lt-of-le, le-refl}
 use native.Mathlib.Omega.{arith}
 use borrow.Author.Tests.{ltb-true, ltb-false, lt-ltb, le-ltb}
 use lib.Dec.{leb·zero, leb·suc-zero, leb·suc-suc}
-use lib.IntN.{ℤ, pos, negsuc, negℤ, sucℤ, predℤ, suc-pred, _+ℤ_, _-ℤ_, +ℤ-idl, +ℤ-idr, +ℤ-invl, +ℤ-assoc, +ℤ-comm, +ℤ-negℤ-cancel, +ℤ-sucℤ, +ℤ-predℤ}
+use lib.IntN.{ℤ, pos, negsuc, negℤ, sucℤ, predℤ, suc-pred, _+ℤ_, _-ℤ_}
+use lib.IntN.{+ℤ-idl, +ℤ-idr, +ℤ-invl, +ℤ-assoc, +ℤ-comm, +ℤ-negℤ-cancel, +ℤ-sucℤ, +ℤ-predℤ}
 use lib.Signed.{ltZ}
 use Rattle.best_path.specs.Path.{Ahead}
 

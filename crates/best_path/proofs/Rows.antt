@@ -1,5 +1,5 @@
--- Rows of survivors, one behind the other: how they grow in a list that was lent, which row is which step's, and that all of them are states.
--- Over any rows of the same length. Assumes nothing.
+-- Rows of survivors, one behind the other: how they grow in a list that was lent, which row is which step's, and that all of
+-- them are states. Over any rows of the same length. Assumes nothing.
 use mathlib.Core.List.{List, [], _∷_, _++_, append-assoc, append-nil}
 use mathlib.Core.Path.{_≡_, refl, sym, ap, ap₂, subst, _∙_}
 use Prim.Native.Nat.{ℕ, zero, suc, _+_, _-_, _*_, _^_, _≤_, _<_}
@@ -26,7 +26,8 @@ pub row-next : (at t width : ℕ) → at ≡ t * width → at + width ≡ (t + 1
 row-next at t width e = omega (arith, e, suc-mul t width, add-one t)
 
 -- how many inputs the way back has
-pub length-traced : {M B : Type 0} (op : Metric M B) (code : ConvCode) (froms : ℕ → List ℕ) (t s : ℕ) → length (traced op code froms t s) ≡ t
+pub length-traced :
+    {M B : Type 0} (op : Metric M B) (code : ConvCode) (froms : ℕ → List ℕ) (t s : ℕ) → length (traced op code froms t s) ≡ t
 unfolding traced
 length-traced op code froms zero s = refl
 length-traced op code froms (suc t) s =
@@ -80,7 +81,8 @@ module _ {states : ℕ} {row : ℕ → List ℕ} (is : StateRows states row) whe
       let all : length (drop at list) ≤ length list - at = omega (arith, length-drop at list) in
       let nothing : part ++ drop (length list - at) (drop at list) ≡ part =
       ap (λ (l : List ℕ). part ++ l) (drop-of-length-le (drop at list) all) ∙ append-nil part in
-      let lent : part ≡ row t ++ drop states (drop at list) = g ∙ ap (λ (l : List ℕ). row t ++ drop states l) (take-all (length list - at) (drop at list) all) in
+      let lent : part ≡ row t ++ drop states (drop at list) =
+      g ∙ ap (λ (l : List ℕ). row t ++ drop states l) (take-all (length list - at) (drop at list) all) in
       ap (λ (l : List ℕ). take at list ++ l) nothing ∙ rows-next old list part at t e f lent
 
   last-apart : (t : ℕ) (rest : List ℕ) → firstRows row (suc t) ++ rest ≡ firstRows row t ++ (row t ++ rest)
@@ -90,34 +92,42 @@ module _ {states : ℕ} {row : ℕ → List ℕ} (is : StateRows states row) whe
   row-at : (t : ℕ) (rest : List ℕ) (i : ℕ) → i < t → rowOf states (firstRows row t ++ rest) i ≡ row i
   row-at zero rest i h = absurd (omega arith)
   row-at (suc t) rest i h =
-      ap (λ (l : List ℕ). rowOf states l i) (last-apart t rest) ∙ elim (decLt i t) [ yes low ↦ row-at t (row t ++ rest) i low | no high ↦ here (omega arith) ]
+      ap (λ (l : List ℕ). rowOf states l i) (last-apart t rest)
+      ∙ elim (decLt i t) [ yes low ↦ row-at t (row t ++ rest) i low | no high ↦ here (omega arith) ]
     where
       here : i ≡ t → rowOf states (firstRows row t ++ (row t ++ rest)) i ≡ row i
       here e =
           subst (λ (j : ℕ). rowOf states (firstRows row t ++ (row t ++ rest)) j ≡ row j) (sym e)
-          (ap (take states) (drop-at (firstRows row t) (row t ++ rest) (t * states) (length-rows t)) ∙ take-at (row t) rest states (is .sized t))
+          (ap (take states) (drop-at (firstRows row t) (row t ++ rest) (t * states) (length-rows t))
+          ∙ take-at (row t) rest states (is .sized t))
 
   all-states : (t : ℕ) (rest : List ℕ) (k : ℕ) → k < t * states → getD (firstRows row t ++ rest) k 0 < states
   all-states zero rest k h = absurd (omega arith)
   all-states (suc t) rest k h =
       subst (λ (l : List ℕ). getD l k 0 < states) (sym (last-apart t rest))
-      (elim (decLt k (t * states)) [ yes low ↦ all-states t (row t ++ rest) k low | no high ↦ here (k - t * states) (omega (arith, high)) (omega (arith, h, suc-mul t states)) ])
+      (elim (decLt k (t * states)) [
+        | yes low ↦ all-states t (row t ++ rest) k low
+        | no high ↦ here (k - t * states) (omega (arith, high)) (omega (arith, h, suc-mul t states))
+      ])
     where
       here : (j : ℕ) → t * states + j ≡ k → j < states → getD (firstRows row t ++ (row t ++ rest)) k 0 < states
       here j e g =
           subst (λ (n : ℕ). n < states)
           (sym (ap (λ (n : ℕ). getD (firstRows row t ++ (row t ++ rest)) n 0) (sym e ∙ ap (λ (n : ℕ). n + j) (sym (length-rows t)))
-          ∙ getD-append-add (firstRows row t) (row t ++ rest) j 0 ∙ List·getD-append (row t) rest 0 j (subst (λ (n : ℕ). j < n) (sym (is .sized t)) g)))
+          ∙ getD-append-add (firstRows row t) (row t ++ rest) j 0
+          ∙ List·getD-append (row t) rest 0 j (subst (λ (n : ℕ). j < n) (sym (is .sized t)) g)))
           (is .below t j g)
 
   -- ---- the way back over what all steps leave
   module _
-      (code : ConvCode) (half steps : ℕ) (list rest : List ℕ) (two : 2 * half ≡ states) (halved : half ≡ 2 ^ (code .width - 1)) (few : half ≤ 32)
+      (code : ConvCode) (half steps : ℕ) (list rest : List ℕ) (two : 2 * half ≡ states) (halved : half ≡ 2 ^ (code .width - 1))
+      (few : half ≤ 32)
       (left : list ≡ firstRows row steps ++ rest) where
     rows-within : steps * (2 * half) ≤ length list
     rows-within =
         let counted : length (firstRows row steps) ≡ steps * (2 * half) = length-rows steps ∙ ap (λ (n : ℕ). steps * n) (sym two) in
-        let all : length list ≡ length (firstRows row steps) + length rest = ap (λ (l : List ℕ). length l) left ∙ length-append (firstRows row steps) rest in
+        let all : length list ≡ length (firstRows row steps) + length rest =
+        ap (λ (l : List ℕ). length l) left ∙ length-append (firstRows row steps) rest in
         omega (arith, counted, all)
 
     pub left-traceable : (last info room : ℕ) → last < 2 * half → info ≤ steps → info ≤ room → Traceable code half list steps last info room
@@ -135,6 +145,9 @@ module _ {states : ℕ} {row : ℕ → List ℕ} (is : StateRows states row) whe
           state = state;
         }
 
-    pub left-way-back : {M B : Type 0} (op : Metric M B) (last : ℕ) → traced wholes code (rowOf (2 * half) list) steps last ≡ traced op code row steps last
+    pub left-way-back :
+        {M B : Type 0} (op : Metric M B) (last : ℕ) →
+        traced wholes code (rowOf (2 * half) list) steps last ≡ traced op code row steps last
     left-way-back op last =
-        traced-same wholes op code (rowOf (2 * half) list) row steps last (λ i h. ap₂ (λ (n : ℕ) (l : List ℕ). rowOf n l i) two left ∙ row-at steps rest i h)
+        traced-same wholes op code (rowOf (2 * half) list) row steps last
+        (λ i h. ap₂ (λ (n : ℕ) (l : List ℕ). rowOf n l i) two left ∙ row-at steps rest i h)

@@ -1,5 +1,5 @@
--- Two metrics that agree step by step have runs that agree: the same states are reached, with metrics that belong together, and the survivors and the
--- way back over them are the same. Assumes nothing.
+-- Two metrics that agree step by step have runs that agree: the same states are reached, with metrics that belong together,
+-- and the survivors and the way back over them are the same. Assumes nothing.
 use mathlib.Core.Bool.{Bool, true, false, cond}
 use mathlib.Core.List.{List, [], _∷_, _++_}
 use mathlib.Core.Path.{_≡_, refl, sym, ap, _∙_}

@@ -1,5 +1,6 @@
--- The butterfly's loop: its turn k stores something of the new states k and k + half. Cut at half, either part of the list gets one store a turn,
--- at k, so in the end the parts begin with the halves of the step. For any list: the metrics are one, the survivors another. Assumes nothing.
+-- The butterfly's loop: its turn k stores something of the new states k and k + half. Cut at half, either part of the list
+-- gets one store a turn, at k, so in the end the parts begin with the halves of the step. For any list: the metrics are one,
+-- the survivors another. Assumes nothing.
 use mathlib.Core.List.{List, _++_, map, append-nil, append-assoc}
 use mathlib.Core.Path.{_≡_, refl, sym, _∙_}
 use Prim.Native.Nat.{ℕ, zero, suc, _+_, _-_, _*_, _^_, _≤_, _<_}
@@ -7,7 +8,8 @@ use native.Mathlib.Nat.{add-comm}
 use native.Mathlib.Numerals.{add-one}
 use native.Mathlib.Omega.{arith}
 use lib.ListN.{length, getD, set, take, drop, length-drop, length-map, take-append-drop, drop-of-length-le, List·getD-map}
-use lib.Seq.{length-take-le, take-all, take-suc, drop-cons, set-at, take-set-le, take-set-lt, drop-set-lt, drop-set-add, getD-take, getD-drop, drop-drop}
+use lib.Seq.{length-take-le, take-all, take-suc, take-set-le, take-set-lt, getD-take}
+use lib.Seq.{drop-cons, drop-drop, drop-set-lt, drop-set-add, getD-drop, set-at}
 use Rattle.trellis.specs.declared.ConvCode.{ConvCode}
 use Rattle.trellis.proofs.States.{states-two-halves}
 use Rattle.best_path.specs.Metric.{Metric}
@@ -46,12 +48,15 @@ module _
   begins-with zero h = refl
   begins-with (suc k) h =
       let done : length (take k new) ≡ k = length-take-le k new (omega arith) in
-      turn k h ∙ rw (begins-with k (omega arith), drop-cons (part 0) k d (omega arith), set-at, take-suc new k d (omega arith), append-assoc)
+      turn k h
+      ∙ rw (begins-with k (omega arith), drop-cons (part 0) k d (omega arith), set-at, take-suc new k d (omega arith), append-assoc)
 
   begins-with-all : part n ≡ new ++ drop n (part 0)
   begins-with-all = begins-with n (omega arith) ∙ rw (take-all n new (omega arith))
 
-module _ {M B A : Type 0} (op : Metric M B) (code : ConvCode) (some : 0 < code .width) (old : ℕ → M) (gain : ℕ → ℕ → B) (of : Cell M → A) where
+module _
+    {M B A : Type 0} (op : Metric M B) (code : ConvCode) (some : 0 < code .width) (old : ℕ → M) (gain : ℕ → ℕ → B)
+    (of : Cell M → A) where
   abbrev half : ℕ
   half = 2 ^ (code .width - 1)
 
@@ -98,7 +103,14 @@ module _ {M B A : Type 0} (op : Metric M B) (code : ConvCode) (some : 0 < code .
     upper-begins =
         begins-with-all none half (drop half new) (omega (arith, length-new, length-drop half new)) (λ (k : ℕ). drop half (after k))
         (omega (arith, two-halves, length-drop half list))
-        (λ k h. rw (add-comm k half, drop-set-add half, drop-set-lt half, getD-drop half, best-at (half + k) k 1 (omega arith) h (omega arith)))
+        (λ k h.
+        rw (
+          add-comm k half,
+          drop-set-add half,
+          drop-set-lt half,
+          getD-drop half,
+          best-at (half + k) k 1 (omega arith) h (omega arith),
+        ))
 
     -- the butterfly's loop comes to the step
     pub stored-step : stored half bestOf list half ≡ map of cells ++ drop (2 ^ code .width) list

@@ -49,10 +49,13 @@ module _ {M B : Type 0} (op : Metric M B) (code : ConvCode) (some : 0 < code .wi
 
   pub step-from : (n : ℕ) → n < 2 ^ code .width → getD (step op code old gain) n (unreached op) .from < 2 ^ code .width
   step-from n h =
-      subst (λ (c : Cell M). c .from < 2 ^ code .width) (sym (step-at n h)) (best-from (n % half) (n / half) (mod-lt n (pow-pos (code .width - 1))))
+      subst (λ (c : Cell M). c .from < 2 ^ code .width) (sym (step-at n h))
+      (best-from (n % half) (n / half) (mod-lt n (pow-pos (code .width - 1))))
 
 -- only the metrics of the code's states are read
-module _ {M B : Type 0} (op : Metric M B) (code : ConvCode) (p q : ℕ → M) (gain : ℕ → ℕ → B) (same : (s : ℕ) → s < 2 ^ code .width → p s ≡ q s) where
+module _
+    {M B : Type 0} (op : Metric M B) (code : ConvCode) (p q : ℕ → M) (gain : ℕ → ℕ → B)
+    (same : (s : ℕ) → s < 2 ^ code .width → p s ≡ q s) where
   visits-same : (k : ℕ) → k ≤ 2 ^ code .width → visits op code p gain k ≡ visits op code q gain k
   unfolding visits visit
   visits-same zero h = refl
@@ -69,10 +72,13 @@ any-default (x ∷ xs) zero d e h = refl
 any-default (x ∷ xs) (suc i) d e h = any-default xs i d e (omega arith)
 
 -- so a step may be taken from a list that holds the metrics, with any default
-pub step-held : {M B : Type 0} (op : Metric M B) (code : ConvCode) (mets : List M) (d : M) (gain : ℕ → ℕ → B) → 2 ^ code .width ≤ length mets → step op code (λ (s : ℕ). getD mets s d) gain ≡ stepFrom op code mets gain
+pub step-held :
+    {M B : Type 0} (op : Metric M B) (code : ConvCode) (mets : List M) (d : M) (gain : ℕ → ℕ → B) →
+    2 ^ code .width ≤ length mets → step op code (λ (s : ℕ). getD mets s d) gain ≡ stepFrom op code mets gain
 unfolding stepFrom
 step-held op code mets d gain room =
-    step-same op code (λ (s : ℕ). getD mets s d) (λ (s : ℕ). getD mets s (op .mark)) gain (λ s h. any-default mets s d (op .mark) (omega arith))
+    step-same op code (λ (s : ℕ). getD mets s d) (λ (s : ℕ). getD mets s (op .mark)) gain
+    (λ s h. any-default mets s d (op .mark) (omega arith))
 
 -- ---- several steps
 

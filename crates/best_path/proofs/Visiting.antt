@@ -1,5 +1,5 @@
--- What the visits of a step leave at a new state is the best way into it out of its two predecessors, the lower one first. No fact of the metric is
--- used: only which visit touches which state. Assumes nothing.
+-- What the visits of a step leave at a new state is the best way into it out of its two predecessors, the lower one first.
+-- No fact of the metric is used: only which visit touches which state. Assumes nothing.
 use mathlib.Core.List.{List}
 use mathlib.Core.Logic.{_⊎_, ⊎-elim}
 use mathlib.Core.Path.{_≡_, refl, sym, ap, subst, _∙_}

@@ -1,5 +1,5 @@
--- Words as paths, an input at a time: with one input more the states and the gain are those of the word and one more, and a word that leads to a
--- state is one that leads to a predecessor, with the state's input after it. Assumes nothing.
+-- Words as paths, an input at a time: with one input more the states and the gain are those of the word and one more, and a
+-- word that leads to a state is one that leads to a predecessor, with the state's input after it. Assumes nothing.
 use mathlib.Core.List.{List, [], _∷_, _++_}
 use mathlib.Core.Logic.{_⊎_, inl, inr, ⊎-elim}
 use mathlib.Core.Path.{_≡_, refl, sym, ap, ap₂, _∙_}

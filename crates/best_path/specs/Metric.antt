@@ -1,5 +1,5 @@
--- Operations on a metric, of which the decoders' are instances: f32 sums that are to be large, f32 costs that are to be small, whole numbers.
--- Definitions only.
+-- Operations on a metric, of which the decoders' are instances: f32 sums that are to be large, f32 costs that are to
+-- be small, whole numbers. Definitions only.
 use mathlib.Core.Bool.{Bool}
 
 -- M is the type of the metrics, B of what a branch brings

@@ -1,5 +1,5 @@
--- Words as paths through the trellis from state 0: what they gain in whole numbers, the states that they pass through, and which of two comes first.
--- Definitions only.
+-- Words as paths through the trellis from state 0: what they gain in whole numbers, the states that they pass
+-- through, and which of two comes first. Definitions only.
 use mathlib.Core.Bool.{Bool, true, false}
 use mathlib.Core.List.{List, [], _∷_}
 use mathlib.Core.Logic.{_⊎_}

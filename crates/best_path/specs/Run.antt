@@ -1,5 +1,5 @@
--- Steps one after the other, and the way back, for any metric and code. `gains t s b` is what the branch of step t from the state s on the input b
--- brings. Definitions only.
+-- Steps one after the other, and the way back, for any metric and code. `gains t s b` is what the branch of step t
+-- from the state s on the input b brings. Definitions only.
 use mathlib.Core.List.{List, [], _∷_, _++_, map}
 use Prim.Native.Nat.{ℕ, zero, suc, _-_, _/_, _^_}
 use lib.ListN.{getD, replicate}

@@ -1,5 +1,5 @@
--- One step of add-compare-select for any metric and code. `old s` is the metric of the state s before it, and `gain s b` is what the branch from s
--- on the input b brings. Definitions only.
+-- One step of add-compare-select for any metric and code. `old s` is the metric of the state s before it, and
+-- `gain s b` is what the branch from s on the input b brings. Definitions only.
 use mathlib.Core.Bool.{cond}
 use mathlib.Core.List.{List}
 use Prim.Native.Nat.{ℕ, zero, suc, _+_, _*_, _^_}
@@ -50,4 +50,6 @@ module _ {M B : Type 0} (op : Metric M B) where
     -- the best way on the input b out of the states 2k and 2k + 1, the lower one first
     unfoldable pub best : ℕ → ℕ → Cell M
     unfolding relaxed
-    best k b = relaxed (relaxed unreached (old (2 * k)) (gain (2 * k) b) (2 * k)) (old (2 * k + 1)) (gain (2 * k + 1) b) (2 * k + 1)
+    best k b =
+        relaxed (relaxed unreached (old (2 * k)) (gain (2 * k) b) (2 * k))
+        (old (2 * k + 1)) (gain (2 * k + 1) b) (2 * k + 1)

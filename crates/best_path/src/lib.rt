@@ -3,12 +3,9 @@
 ghost use mathlib.Core.Bool.{cond};
 ghost use mathlib.Core.List.{_++_};
 ghost use mathlib.Core.Path.{_≡_};
-ghost use Prim.Native.Nat.{_*_};
 ghost use lib.Dec.{ltb};
-ghost use lib.ListN.{length, take, drop};
-ghost use Rattle.best_path.specs.Path.{wholes};
-ghost use Rattle.best_path.specs.Rows.{rowOf, Traceable};
-ghost use Rattle.best_path.specs.Run.{traced};
+ghost use lib.ListN.{length, drop};
+ghost use Rattle.best_path.specs.Rows.{spelled, Traceable};
 use trellis::ConvCode;
 
 // The best way into a state so far: its metric, and the state that it comes from.
@@ -35,7 +32,8 @@ pub fn trace(
     out: &mut [u8],
 )
     requires { ⌜ Traceable code half (now rows) steps last info (length (now out)) ⌝ }
-    ensures { λ _. ⌜ now (out .exit) ≡ take info (traced wholes code (rowOf (2 * half) (now (rows .entry))) steps last) ++ drop info (now (out .entry)) ⌝ }
+    ensures { λ _. ⌜ now (out .exit)
+        ≡ spelled code half (now (rows .entry)) steps last info ++ drop info (now (out .entry)) ⌝ }
 {
     let states = 2 * half;
     let mut s = last;

@@ -6,8 +6,7 @@ use Prim.Native.Nat.{ℕ, _-_, _*_, _<_}
 use native.Mathlib.Omega.{arith}
 use lib.ListN.{length, take, drop}
 use lib.Pow.{pow-pos}
-use Rattle.best_path.specs.Path.{wholes}
-use Rattle.best_path.specs.Rows.{rowOf, Traceable}
+use Rattle.best_path.specs.Rows.{spelled, Traceable}
 use Rattle.best_path.specs.Run.{traced}
 use Rattle.best_path.proofs.Rows.{StateRows, left-traceable, left-way-back}
 use Rattle.trellis.specs.declared.ConvCode.{ConvCode}
@@ -48,22 +47,21 @@ module _
       state (omega arith) (ready .room)
 
   -- from state 0 the rows spell what the definition's survivors do
-  spelled :
+  spells :
       (s : ℕ) → 0 ≡ s →
-      take info (traced wholes code (rowOf (2 * half) left) steps 0)
-      ≡ take info (traced (kind .op) code (froms kind code p readings) steps s)
-  spelled s same =
+      spelled code half left steps 0 info ≡ take info (traced (kind .op) code (froms kind code p readings) steps s)
+  spells s same =
       ap (take info)
       (left-way-back rows code half steps left _ refl (shape .halved) (shape .few) (ran .survivors) (kind .op) 0
       ∙ ap (traced (kind .op) code (froms kind code p readings) steps) same)
 
-  word-spelled : take info (traced wholes code (rowOf (2 * half) left) steps 0) ≡ word kind code p readings info
+  word-spelled : spelled code half left steps 0 info ≡ word kind code p readings info
   unfolding word
-  word-spelled = spelled _ (omega arith)
+  word-spelled = spells _ (omega arith)
 
   -- so where the way back from state 0 is written to the output, word, score and survivors are found
   pub way-finds :
-      {new : List ℕ} → new ≡ take info (traced wholes code (rowOf (2 * half) left) steps 0) ++ drop info out →
+      {new : List ℕ} → new ≡ spelled code half left steps 0 info ++ drop info out →
       Finds kind code p (2 * half) info readings r (record { given = out; left = new }) (record { given = scratch; left = left })
   unfolding score
   way-finds e =
