@@ -11,12 +11,13 @@ use lib.ListN.{length, getD, replicate}
 use Rattle.f32s.specs.Single.{zero32, within}
 use Rattle.branches.specs.Smallest.{mark, smallest}
 use Rattle.trellis.specs.declared.ConvCode.{ConvCode}
-use Rattle.streaming.specs.Stream.{State, turns, fed, given, bitBehind}
+use Rattle.streaming.specs.Stream.{State, turns, fresh, given, bitBehind}
 use Rattle.streaming.specs.Run.{Symbol, nought, after, flushed, flushGives}
 use Rattle.streaming.specs.Said.{feedLeaves, flushLeaves}
 use Rattle.streaming.specs.Life.{Good, AllGood, joinedBy, afterFresh, metricBound}
 use Rattle.streaming.specs.Life.{Life, begun, then-fed, then-flushed, acceptedIn}
 use Rattle.streaming.proofs.Bounds.{metric-bounded}
+use Rattle.streaming.proofs.Running.{joined-after}
 use Rattle.streaming.proofs.Counters.{count-after, turn-after, gives-after, flush-after, flush-gives-after}
 
 -- what a flush feeds is accepted
@@ -28,6 +29,17 @@ noughts-good : (n : ℕ) (xs : List Symbol) → AllGood xs → AllGood (replicat
 noughts-good zero xs good = good
 noughts-good (suc n) xs good = (nought-good, noughts-good n xs good)
 
+-- and what joins the accepted symbols is accepted
+joined-good : (xs : List Symbol) (re im : Float) → AllGood xs → AllGood (joinedBy re im xs)
+joined-good xs re im good = go (within re) (within im) refl refl
+  where
+    go :
+        (p q : Bool) → within re ≡ p → within im ≡ q →
+        AllGood (cond p (cond q (record { re = re; im = im } ∷ xs) xs) xs)
+    go true true e f = (record { re-within = e; im-within = f }, good)
+    go true false e f = good
+    go false q e f = good
+
 module _ (code : ConvCode) (lag : ℕ) where
   -- the symbols were accepted, and the state is that after them
   record Accepted (st : State) (xs : List Symbol) : Type 0 where
@@ -36,16 +48,11 @@ module _ (code : ConvCode) (lag : ℕ) where
 
   accepted-more :
       (st : State) (xs : List Symbol) (re im : Float) → Accepted st xs → Accepted (feedLeaves code lag st re im) (joinedBy re im xs)
-  unfolding feedLeaves after
-  accepted-more st xs re im h = go (within re) (within im) refl refl
-    where
-      go :
-          (p q : Bool) → within re ≡ p → within im ≡ q →
-          Accepted (cond p (cond q (fed code lag st re im) st) st) (cond p (cond q (record { re = re; im = im } ∷ xs) xs) xs)
-      go true true e f =
-          record { good = (record { re-within = e; im-within = f }, h .good); is = ap (λ (s : State). fed code lag s re im) (h .is) }
-      go true false e f = h
-      go false q e f = h
+  accepted-more st xs re im h =
+      record {
+        good = joined-good xs re im (h .good);
+        is = ap (λ (s : State). feedLeaves code lag s re im) (h .is) ∙ joined-after code lag (fresh code lag) xs re im;
+      }
 
   accepted-flush :
       (st : State) (xs : List Symbol) (room : ℕ) → Accepted st xs →

@@ -1,6 +1,5 @@
 -- Normalisation: metrics that all lie from p up to p + r, in multiples of 2 ^ 13, come to lie from 0 up to r. Where nothing
--- is subtracted the least is 0,
--- and so is p. Assumes nothing.
+-- is subtracted the least is 0, and so is p. Assumes nothing.
 use mathlib.Core.Bool.{Bool, true, false, cond}
 use mathlib.Core.List.{List, map}
 use mathlib.Core.Path.{_≡_, refl, _∙_}
@@ -48,8 +47,8 @@ module _
 
   lowered-up-to : (s : ℕ) → s < states → UpTo r scale (lowered least (metAt s))
   lowered-up-to s h =
-      rw (reached s h) (difference-range binary32 scale (lit≤ tt) (all s h .up-to) least-range (least-not-above mets states s h)
-      (omega arith))
+      rw (reached s h)
+      (difference-range binary32 scale (lit≤ tt) (all s h .up-to) least-range (least-not-above mets states s h) (omega arith))
 
   lowered-at : (s : ℕ) → s < states → getD (map (lowered least) mets) s mark ≡ lowered least (metAt s)
   lowered-at s h =

@@ -1,6 +1,5 @@
 -- One step without normalisation: it keeps a lower bound of the metrics, adds to an upper bound at most what a branch costs,
--- and each branch out of a
--- reached state bounds the metric of the state that it leads to. Assumes nothing.
+-- and each branch out of a reached state bounds the metric of the state that it leads to. Assumes nothing.
 use mathlib.Core.Bool.{true, false, true≢false}
 use mathlib.Core.List.{List, map}
 use mathlib.Core.Logic.{_⊎_, inl, inr}
@@ -68,37 +67,37 @@ length-next code some re im mets =
     length-map (step smallest code old (costs code re im)) metOf ∙ length-step smallest code some old (costs code re im)
 
 module _
-    (code : ConvCode) (some : 0 < code .width) (re im : Float) (re-in : within re ≡ true) (im-in : within im ≡ true) (mets : List Float)
-    (room : 2 ^ code .width ≤ length mets)
-  where
-    abbrev metAt : ℕ → Float
-    metAt s = getD mets s mark
+    (code : ConvCode) (some : 0 < code .width) (re im : Float) (re-in : within re ≡ true) (im-in : within im ≡ true)
+    (mets : List Float) (room : 2 ^ code .width ≤ length mets) where
+  abbrev metAt : ℕ → Float
+  metAt s = getD mets s mark
 
-    abbrev cells : List (Cell Float)
-    cells = step smallest code metAt (costs code re im)
+  abbrev cells : List (Cell Float)
+  cells = step smallest code metAt (costs code re im)
 
-    next-at : (s : ℕ) → getD (next code re im mets) s mark ≡ getD cells s (unreached smallest) .met
-    unfolding stepFrom
-    next-at s =
-        ap (λ (l : List (Cell Float)). getD (map metOf l) s mark) (step-held smallest code mets nan (costs code re im) room)
-        ∙ List·getD-map metOf cells s (unreached smallest)
+  next-at : (s : ℕ) → getD (next code re im mets) s mark ≡ getD cells s (unreached smallest) .met
+  unfolding stepFrom
+  next-at s =
+      ap (λ (l : List (Cell Float)). getD (map metOf l) s mark) (step-held smallest code mets nan (costs code re im) room)
+      ∙ List·getD-map metOf cells s (unreached smallest)
 
-    pub next-range :
-        (p q : ℕ) → q + dearest ≤ exact → ((s : ℕ) → s < 2 ^ code .width → MarkOrRange p q (metAt s)) → (s : ℕ) → s < 2 ^ code .width →
-        MarkOrRange p (q + dearest) (getD (next code re im mets) s mark)
-    next-range p q few all s h =
-        rw (next-at s)
-        (step-met smallest code some (costs code re im) (MarkOrRange p q) (MarkOrRange p (q + dearest)) (inl refl)
-        (λ s i m y v r better. inr (sum-range binary32 scale (lit≤ tt) (reached-range v r) (branch-bounded re im re-in im-in code s i) few))
-        metAt all s h)
+  pub next-range :
+      (p q : ℕ) → q + dearest ≤ exact → ((s : ℕ) → s < 2 ^ code .width → MarkOrRange p q (metAt s)) →
+      (s : ℕ) → s < 2 ^ code .width → MarkOrRange p (q + dearest) (getD (next code re im mets) s mark)
+  next-range p q few all s h =
+      rw (next-at s)
+      (step-met smallest code some (costs code re im) (MarkOrRange p q) (MarkOrRange p (q + dearest)) (inl refl)
+      (λ s i m y v r better.
+      inr (sum-range binary32 scale (lit≤ tt) (reached-range v r) (branch-bounded re im re-in im-in code s i) few))
+      metAt all s h)
 
-    -- a state that is reached leads to states that are
-    pub next-led :
-        (p q r s i : ℕ) → q + dearest ≤ exact → ((s : ℕ) → s < 2 ^ code .width → MarkOrRange p q (metAt s)) → s < 2 ^ code .width → i < 2 →
-        nextState code s i < 2 ^ code .width → r + dearest ≤ exact → UpTo r scale (metAt s) →
-        UpTo (r + dearest) scale (getD (next code re im mets) (nextState code s i) mark)
-    next-led p q r s i few all h hi hn few' u =
-        let sum = sum-up-to binary32 scale (lit≤ tt) u (branch-bounded re im re-in im-in code s i) few' in
-        no-more sum (up-to-below few' sum) (next-range p q few all (nextState code s i) hn)
-        (rw (next-at (nextState code s i))
-        (step-no-better smallest lt-trans lt-irrefl code some metAt (costs code re im) s i h hi (up-to-below (omega arith) u)))
+  -- a state that is reached leads to states that are
+  pub next-led :
+      (p q r s i : ℕ) → q + dearest ≤ exact → ((s : ℕ) → s < 2 ^ code .width → MarkOrRange p q (metAt s)) →
+      s < 2 ^ code .width → i < 2 → nextState code s i < 2 ^ code .width → r + dearest ≤ exact → UpTo r scale (metAt s) →
+      UpTo (r + dearest) scale (getD (next code re im mets) (nextState code s i) mark)
+  next-led p q r s i few all h hi hn few' u =
+      let sum = sum-up-to binary32 scale (lit≤ tt) u (branch-bounded re im re-in im-in code s i) few' in
+      no-more sum (up-to-below few' sum) (next-range p q few all (nextState code s i) hn)
+      (rw (next-at (nextState code s i))
+      (step-no-better smallest lt-trans lt-irrefl code some metAt (costs code re im) s i h hi (up-to-below (omega arith) u)))

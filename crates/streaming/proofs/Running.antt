@@ -74,33 +74,52 @@ module _ {code : ConvCode} {lag : ℕ} {st : State} {old : List ℕ} where
         ap (λ (l : List ℕ). runGives code lag st xs ++ l) (sym gives ∙ ap (given code lag) of-next) ∙ gives-next code lag st x xs in
         record { state = of-next; bits = subst (λ (l : List ℕ). Written old l (i + 1) new count) of-bits written-it }
 
--- ---- one symbol, accepted or not
+-- ---- a symbol, accepted or not
 
+module _ (code : ConvCode) (lag : ℕ) (st : State) (xs : List Symbol) (re im : Float) where
+  abbrev now : State
+  now = after code lag st xs
+
+  abbrev next : State
+  next = fed code lag now re im
+
+  -- one that is accepted joins those before it, and one that is refused leaves the state and gives nothing
+  pub joined-after : feedLeaves code lag now re im ≡ after code lag st (joinedBy re im xs)
+  unfolding feedLeaves after
+  joined-after = go (within re) (within im)
+    where
+      go :
+          (p q : Bool) →
+          cond p (cond q next now) now ≡ after code lag st (cond p (cond q (record { re = re; im = im } ∷ xs) xs) xs)
+      go true true = refl
+      go true false = refl
+      go false q = refl
+
+  pub joined-gives :
+      runGives code lag st xs ++ bitsIn (feedSaid code lag now re im) ≡ runGives code lag st (joinedBy re im xs)
+  unfolding feedSaid runGives after
+  joined-gives = go (within re) (within im)
+    where
+      go :
+          (p q : Bool) →
+          runGives code lag st xs ++ bitsIn (cond p (cond q (accepted (given code lag next)) (refused 7 1)) (refused 7 0))
+          ≡ runGives code lag st (cond p (cond q (record { re = re; im = im } ∷ xs) xs) xs)
+      go true true = refl
+      go true false = append-nil (runGives code lag st xs)
+      go false q = append-nil (runGives code lag st xs)
+
+-- what it gives written behind the bits before it
 pub ran-fed :
-    {code : ConvCode} {late : ℕ} {st : State} {old : List ℕ} {xs : List Symbol} {i : ℕ} {now next : State} {out new : List ℕ}
-    {written count : ℕ} (re im : Float) (said : Said (List ℕ)) → Ran code late st old xs i now out written →
-    said ≡ feedSaid code late now re im → next ≡ feedLeaves code late now re im →
-    Written old (runGives code late st xs ++ bitsIn said) (i + 1) new count →
-    Ran code late st old (joinedBy re im xs) (i + 1) next new count
-unfolding feedSaid feedLeaves
-ran-fed {code} {late} {st} {old} {xs} {i} {now} {next} {out} {new} {written} {count} re im said ran says leaves w =
-    go (within re) (within im) says leaves
-  where
-    x : Symbol
-    x = record { re = re; im = im }
-
-    after-it : State
-    after-it = fed code late now re im
-
-    refuses : bitsIn said ≡ [] → next ≡ now → Ran code late st old xs (i + 1) next new count
-    refuses none same =
-        let bits : runGives code late st xs ++ bitsIn said ≡ runGives code late st xs =
-        ap (λ (l : List ℕ). runGives code late st xs ++ l) none ∙ append-nil (runGives code late st xs) in
-        record { state = same ∙ ran .state; bits = subst (λ (l : List ℕ). Written old l (i + 1) new count) bits w }
-
-    go :
-        (p q : Bool) → said ≡ cond p (cond q (accepted (given code late after-it)) (refused 7 1)) (refused 7 0) →
-        next ≡ cond p (cond q after-it now) now → Ran code late st old (cond p (cond q (x ∷ xs) xs) xs) (i + 1) next new count
-    go true true e f = ran-more x ran f (ap (given code late) f ∙ sym (ap bitsIn e)) w
-    go true false e f = refuses (ap bitsIn e) f
-    go false q e f = refuses (ap bitsIn e) f
+    {code : ConvCode} {lag : ℕ} {st : State} {old : List ℕ} {xs : List Symbol} {i : ℕ} {now next : State} {out new : List ℕ}
+    {written count : ℕ} (re im : Float) (said : Said (List ℕ)) → Ran code lag st old xs i now out written →
+    said ≡ feedSaid code lag now re im → next ≡ feedLeaves code lag now re im →
+    Written old (runGives code lag st xs ++ bitsIn said) (i + 1) new count →
+    Ran code lag st old (joinedBy re im xs) (i + 1) next new count
+ran-fed {code} {lag} {st} {old} {xs} {i} {now} {next} {out} {new} {written} {count} re im said ran says leaves w =
+    let bits : runGives code lag st xs ++ bitsIn said ≡ runGives code lag st (joinedBy re im xs) =
+    ap (λ (s : Said (List ℕ)). runGives code lag st xs ++ bitsIn s) (says ∙ ap (λ (s : State). feedSaid code lag s re im) (ran .state))
+    ∙ joined-gives code lag st xs re im in
+    record {
+      state = leaves ∙ ap (λ (s : State). feedLeaves code lag s re im) (ran .state) ∙ joined-after code lag st xs re im;
+      bits = subst (λ (l : List ℕ). Written old l (i + 1) new count) bits w;
+    }

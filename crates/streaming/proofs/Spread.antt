@@ -1,6 +1,6 @@
 -- How far the metrics lie apart. Along a way out of a least state each step adds at most what a branch costs, and no metric
--- goes below that least. So
--- after as many steps as the register has cells every state is reached, and all metrics lie close together. Assumes nothing.
+-- goes below that least. So after as many steps as the register has cells every state is reached, and all metrics lie close
+-- together. Assumes nothing.
 use mathlib.Core.Bool.{true, false}
 use mathlib.Core.List.{List}
 use mathlib.Core.Logic.{inl, inr}
@@ -21,8 +21,7 @@ use Rattle.streaming.proofs.Plain.{dearest, scale, exact, MarkOrRange, 
 use Rattle.streaming.proofs.Way.{way, wayInput, way-below, way-input, way-starts, way-next, way-ends}
 
 -- After j steps: every metric is the mark or from `low` up to q, in multiples of 2 ^ 13. At first the state `source` had at
--- most one more than `low`,
--- so on every way out of it there is at most what j branches cost on top of that.
+-- most one more than `low`, so on every way out of it there is at most what j branches cost on top of that.
 pub record Spread (code : ConvCode) (q j : ℕ) (mets : List Float) : Type 0 where
   pub low : ℕ
   pub source : ℕ
@@ -79,9 +78,8 @@ spread-steps code some re im re-in im-in q j mets room few v =
     let led : (n : ℕ) → UpTo (suc low + dearest * j + dearest) scale (getD (next code re im mets) (at n (suc j)) mark) =
     λ n.
     rw (← way-next code some (v .source) n j)
-    (next-led code some re im re-in im-in mets room low q (suc low + dearest * j) (at n j) (wayInput code (v .source) n j) (omega arith)
-    (v .all)
-    (way-below code (v .source) n j) (way-input code (v .source) n j)
+    (next-led code some re im re-in im-in mets room low q (suc low + dearest * j) (at n j) (wayInput code (v .source) n j)
+    (omega arith) (v .all) (way-below code (v .source) n j) (way-input code (v .source) n j)
     (rw (way-next code some (v .source) n j) (way-below code (v .source) n (suc j)))
     (omega arith) (v .led n)) in
     record {

@@ -1,6 +1,5 @@
 -- The way from a state to any other in as many steps as the register has cells: each step takes in the next bit of the state
--- to reach, low bits first.
--- Over any code with a cell at least. Assumes nothing.
+-- to reach, low bits first. Over any code with a cell at least. Assumes nothing.
 use mathlib.Core.Path.{_≡_, sym, ap, _∙_}
 use Prim.Native.Nat.{ℕ, suc, _+_, _*_, _/_, _%_, _^_, _<_}
 use native.Mathlib.Nat.{mod-lt, mod-eq-of-lt, div-one}

@@ -28,10 +28,10 @@ use symbols::forward_pass::first_least;
 pub const LAG: usize = 32;
 
 // Where the count of symbols stays: from then on each brings a bit.
-const FULL: u8 = 33;
+const FULL: u8 = (LAG + 1) as u8;
 
 // How many values the count has.
-const COUNTS: u8 = 34;
+const COUNTS: u8 = (LAG + 2) as u8;
 
 // The metrics; the symbols so far, up to one more than the lag; and the symbols so far mod 256.
 #[repr(C)]

@@ -47,5 +47,5 @@ returns-2 c = flushing-ends (c .before .loop .inv) (omega arith)
 pub flush-lent-spec : {M : Type 1} → statement M
 flush-lent-spec =
     tie.close
-    (tie.spec Inv-loop μ-loop (search needs) returns loop-holds (search needs) (search needs) slice-write-out
-    (search needs) (search needs) (search needs) loop-again (search needs) returns-2)
+    (tie.spec Inv-loop μ-loop (λ c κs. tt) returns loop-holds (λ c κs. tt) (λ c κs. tt) slice-write-out
+    (λ c. omega arith) (λ c. omega arith) (λ c. omega arith) loop-again (search needs) returns-2)

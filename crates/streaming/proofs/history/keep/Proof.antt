@@ -1,7 +1,6 @@
 -- `streaming::history::keep`: the laws of a turn at what is known there. Assumes nothing.
 use Prim.Native.Nat.{_-_, _^_}
 use native.Mathlib.Omega.{arith}
-use borrow.Author.Needs.{needs}
 use Rattle.trellis.specs.Choice.{k5}
 use Rattle.streaming.proofs.Kept.{Keeping, keeping-starts, keeping-goes-on, keeping-ends}
 use Rattle.streaming.proofs.history.keep.Statement.{statement}
@@ -27,5 +26,6 @@ returns c = keeping-ends (c .before .loop .inv) (omega arith)
 pub keep-spec : {M : Type 1} → statement M
 keep-spec =
     tie.close
-    (tie.spec Inv-loop μ-loop loop-holds (search needs) (search needs) (search needs) (search needs) (search needs)
-    (search needs) (search needs) (search needs) (search needs) (search needs) loop-again returns)
+    (tie.spec Inv-loop μ-loop loop-holds (λ c. omega arith) (λ c. omega arith) (λ c. omega arith) (λ c. omega arith)
+    (λ c. omega arith) (λ c κs. tt) (λ c. omega arith) (λ c. omega arith) (λ c. omega arith) (λ c. omega arith)
+    loop-again returns)

@@ -27,5 +27,5 @@ returns c = going-back-ends (c .before .loop .inv) (omega arith)
 pub state-behind-spec : {M : Type 1} → statement M
 state-behind-spec =
     tie.close
-    (tie.spec Inv-loop μ-loop loop-holds (search needs) (search needs) (search needs) (search needs) (search needs)
-    (search needs) (search needs) loop-again returns)
+    (tie.spec Inv-loop μ-loop loop-holds (λ c. omega arith) (λ c. omega arith) (λ c. omega arith) (search needs)
+    (λ c. omega arith) (λ c. omega arith) (λ c. omega arith) loop-again returns)

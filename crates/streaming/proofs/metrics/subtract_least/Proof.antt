@@ -1,7 +1,6 @@
 -- `streaming::metrics::subtract_least`: the laws of a turn at what is known there. Assumes nothing.
 use Prim.Native.Nat.{_-_, _^_}
 use native.Mathlib.Omega.{arith}
-use borrow.Author.Needs.{needs}
 use Rattle.trellis.specs.Choice.{k5}
 use Rattle.streaming.proofs.Normal.{Lowering, lowering-starts, lowering-goes-on, lowering-ends, none-subtracted}
 use Rattle.streaming.proofs.metrics.subtract_least.Statement.{statement}
@@ -33,5 +32,5 @@ returns-2 c = none-subtracted (c .before .least-of .ensures) (c .if1 .left)
 pub subtract-least-spec : {M : Type 1} → statement M
 subtract-least-spec =
     tie.close
-    (tie.spec Inv-loop μ-loop (search needs) loop-holds (search needs) (search needs) (search needs) (search needs)
-    (search needs) (search needs) (search needs) loop-again returns returns-2)
+    (tie.spec Inv-loop μ-loop (λ c κs. tt) loop-holds (λ c. omega arith) (λ c. omega arith) (λ c κs. tt)
+    (λ c. omega arith) (λ c. omega arith) (λ c. omega arith) (λ c. omega arith) loop-again returns returns-2)
