@@ -16,7 +16,7 @@ use Rattle.trellis.specs.declared.KeepPattern.{KeepPattern}
 use Rattle.trellis.specs.Choice.{keepOf}
 use Rattle.trellis.specs.Codeword.{stepsOf}
 use Rattle.trellis.specs.Keep.{Keep}
-use Rattle.trellis.specs.Post.{Halved}
+use Rattle.trellis.specs.Inner.{Halved}
 use Rattle.branches.specs.Largest.{largest}
 use Rattle.readings.specs.Decode.{froms, word, score}
 use Rattle.readings.specs.Inner.{Runs, Decodable, Finds}

@@ -19,6 +19,7 @@ use Rattle.encoder.specs.Encode.{codedLengthOf}
 use Rattle.f32s.specs.Single.{zero32}
 use Rattle.refusal.specs.Answer.{Said, refused, refuseWhen}
 use Rattle.refusal.specs.Limits.{most}
+use Rattle.refusal.specs.Numbers.{unknownCode, unknownRate, tooMany}
 use Rattle.refusal.specs.Lent.{leaves, Lent}
 use Rattle.trellis.specs.declared.ConvCode.{ConvCode}
 use Rattle.trellis.specs.Choice.{knownCode, codeOf, knownRate, patternOf}
@@ -100,7 +101,9 @@ module _ (code : ConvCode) (p : Keep) (good : Pattern p) (readings : List Float)
 -- ---- by the numbers of the code and the rate
 
 -- a call that is refused with 3 at the latest leaves nothing new, whether or not its code and rate are known
-refused-leaves : (a b : Bool) (new old : List ℕ) → leaves {A = Float} (refuseWhen a 1 (refuseWhen b 2 (refused 3 0))) new old ≡ old
+refused-leaves :
+    (a b : Bool) (new old : List ℕ) →
+    leaves {A = Float} (refuseWhen a unknownCode (refuseWhen b unknownRate (refused tooMany 0))) new old ≡ old
 refused-leaves true b new old = refl
 refused-leaves false true new old = refl
 refused-leaves false false new old = refl
@@ -140,7 +143,8 @@ module _ (code rate info : ℕ) (readings : List Float) (room scratch n : ℕ) (
 
   pub surplus-output :
       (old : List ℕ) →
-      leaves (decodeSaid code rate info (take n readings) room scratch) (word (codeOf code) (patternOf code rate) (take n readings) info) old
+      leaves (decodeSaid code rate info (take n readings) room scratch)
+      (word (codeOf code) (patternOf code rate) (take n readings) info) old
       ≡ leaves (decodeSaid code rate info readings room scratch) (word (codeOf code) (patternOf code rate) readings info) old
   surplus-output old =
       surplus-leaves _ _ old (λ h. word-taken (codeOf code) (patternOf code rate) (rate-pattern code rate) readings n info (within h))

@@ -13,7 +13,7 @@ use Rattle.best_path.specs.Step.{Cell, best}
 use Rattle.best_path.proofs.Butterfly.{crossed-bits, wing-best}
 use Rattle.best_path.proofs.Stored.{met-of, from-of, stored, stored-none, stored-turn, stored-step}
 use Rattle.trellis.specs.declared.ConvCode.{ConvCode}
-use Rattle.trellis.specs.Post.{Crossed}
+use Rattle.trellis.specs.Inner.{Crossed}
 use Rattle.trellis.specs.State.{window, parityOf}
 use Rattle.trellis.proofs.States.{states-two-halves}
 use Rattle.branches.specs.Largest.{largest}

@@ -12,7 +12,7 @@ use Rattle.trellis.specs.declared.KeepPattern.{KeepPattern}
 use Rattle.trellis.specs.Choice.{k7, codeOf, patternOf}
 use Rattle.trellis.specs.Codeword.{stepsOf}
 use Rattle.trellis.specs.Keep.{Keep}
-use Rattle.trellis.specs.Post.{Rows, Halved, Crossed}
+use Rattle.trellis.specs.Inner.{Rows, Halved, Crossed}
 use Rattle.branches.specs.Largest.{mark, largest}
 use Rattle.readings.specs.Decode.{mets, word, score, filledRows}
 use Rattle.readings.specs.Sums.{brings}

@@ -12,7 +12,7 @@ use Rattle.best_path.specs.Step.{Cell, best}
 use Rattle.best_path.proofs.Butterfly.{crossed-bits, wing-best}
 use Rattle.best_path.proofs.Stored.{met-of, from-of, stored, stored-step}
 use Rattle.trellis.specs.Choice.{k5}
-use Rattle.trellis.specs.Post.{Crossed}
+use Rattle.trellis.specs.Inner.{Crossed}
 use Rattle.trellis.specs.State.{window, parityOf}
 use Rattle.branches.specs.Smallest.{smallest}
 use Rattle.symbols.specs.Costs.{cost, costs, phasorOf}

@@ -4,7 +4,7 @@ ghost use mathlib.Core.Path.{_≡_};
 ghost use Prim.Native.Nat.{_*_, _≤_};
 ghost use lib.ListN.{length, drop};
 ghost use Rattle.trellis.specs.Choice.{k5};
-ghost use Rattle.trellis.specs.Post.{Crossed};
+ghost use Rattle.trellis.specs.Inner.{Crossed};
 ghost use Rattle.symbols.specs.Decode.{firstLeast, mets, filledRows};
 ghost use Rattle.symbols.specs.Post.{newMets, newFroms};
 use crate::phasors::cost_of_pair;

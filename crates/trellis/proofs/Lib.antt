@@ -1,5 +1,6 @@
--- Cells: the register as a number. States: what steps do to states. Ends: what a tap word's end bits do. Even: the coded bits of the even states. Kept: how many places are kept. Sent: what is sent.
--- Columns: a keep pattern as the code holds it. Chosen: what holds of every code and pattern that a number selects. Unique: each contract allows one outcome at most.
+-- Cells: the register as a number. States: what steps do to states. Ends: what a tap word's end bits do. Even: the coded bits
+-- of the even states. Kept: how many places are kept. Columns: a keep pattern as the code holds it. Sent: what is sent. Chosen:
+-- what holds of every code and pattern that numbers select. Unique: each contract allows one outcome at most.
 pub mod Cells
 pub mod States
 pub mod Ends

@@ -67,7 +67,7 @@ part-step-end c = omega arith
 
 step-requires : tie.Need-step-requires Inv-loop μ-loop
 step-requires c κs =
-    (k5-crossed _ (c .before .before .before .before .before .before .before .before .before .before .before .before .conv-code .ensures) _ _ (c .before .before .before .before .before .before .before .before .before .before .before .sent-by-even .ensures .0), simp (length-take, length-drop) (omega arith))
+    (k5-crossed _ (c .before .before .before .before .before .before .before .before .before .before .before .before .conv-code .ensures) _ _ (c .before .before .before .before .before .before .before .before .before .before .before .sent-by-even .ensures .crossed), simp (length-take, length-drop) (omega arith))
 
 add-to : tie.Need-add-to Inv-loop μ-loop
 add-to c = omega arith
