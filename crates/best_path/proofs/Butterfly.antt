@@ -10,7 +10,7 @@ use lib.Count.{ones}
 use lib.Dec.{lit<}
 use lib.ListN.{getD}
 use Rattle.trellis.specs.declared.ConvCode.{ConvCode}
-use Rattle.trellis.specs.Post.{Ends, Crossed}
+use Rattle.trellis.specs.Inner.{Ends, Crossed}
 use Rattle.trellis.specs.State.{window, parityOf}
 use Rattle.trellis.proofs.Ends.{turned-by-state0, turned-by-state1, turned-by-input0, turned-by-input1}
 use Rattle.trellis.proofs.States.{states-two-halves}

@@ -6,7 +6,7 @@ use Prim.Native.Nat.{ℕ, _+_, _-_, _*_, _^_, _≤_, _<_}
 use native.Mathlib.Omega.{arith}
 use lib.ListN.{length, getD, set, drop, length-set}
 use Rattle.trellis.specs.declared.ConvCode.{ConvCode}
-use Rattle.trellis.specs.Post.{Crossed}
+use Rattle.trellis.specs.Inner.{Crossed}
 use Rattle.trellis.specs.State.{window, parityOf}
 use Rattle.trellis.proofs.States.{states-two-halves}
 use Rattle.best_path.specs.Metric.{Metric}

@@ -14,7 +14,7 @@ use Rattle.trellis.specs.declared.KeepPattern.{KeepPattern}
 use Rattle.trellis.specs.Choice.{keepOf}
 use Rattle.trellis.specs.Codeword.{stepsOf}
 use Rattle.trellis.specs.Keep.{Keep}
-use Rattle.trellis.specs.Post.{Halved}
+use Rattle.trellis.specs.Inner.{Halved}
 use Rattle.correlation.specs.Arithmetic.{Kind}
 use Rattle.correlation.specs.Decode.{froms, word, score}
 use Rattle.correlation.specs.Inner.{Runs, Decodable, Finds}

@@ -21,7 +21,7 @@ use Rattle.trellis.specs.declared.KeepPattern.{KeepPattern}
 use Rattle.trellis.specs.Choice.{keepOf}
 use Rattle.trellis.specs.Keep.{Keep, keeps0, keeps1, codedLength}
 use Rattle.trellis.specs.Places.{valueOf, filled, place0, place1}
-use Rattle.trellis.specs.Post.{Rows, Halved, Crossed}
+use Rattle.trellis.specs.Inner.{Rows, Halved, Crossed}
 use Rattle.trellis.proofs.Columns.{rows-pattern, keeps0-column, keeps1-column, column-next}
 use Rattle.trellis.proofs.Kept.{one, coded-suc, coded-le}
 use Rattle.trellis.proofs.States.{states-two-halves}

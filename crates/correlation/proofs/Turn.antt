@@ -10,7 +10,7 @@ use Rattle.best_path.specs.Post.{LedTo}
 use Rattle.best_path.specs.Step.{Cell}
 use Rattle.best_path.proofs.Turns.{Paired, paired-starts, paired-mets, paired-froms, paired-goes-on}
 use Rattle.trellis.specs.declared.ConvCode.{ConvCode}
-use Rattle.trellis.specs.Post.{Crossed}
+use Rattle.trellis.specs.Inner.{Crossed}
 use Rattle.trellis.specs.State.{window, parityOf}
 use Rattle.correlation.specs.Arithmetic.{Kind}
 use Rattle.correlation.specs.Gain.{correlation, brings}

@@ -10,7 +10,7 @@ use Rattle.trellis.specs.declared.ConvCode.{ConvCode}
 use Rattle.trellis.specs.declared.KeepPattern.{KeepPattern}
 use Rattle.trellis.specs.Codeword.{stepsOf}
 use Rattle.trellis.specs.Keep.{Keep}
-use Rattle.trellis.specs.Post.{Rows, Halved, Crossed}
+use Rattle.trellis.specs.Inner.{Rows, Halved, Crossed}
 use Rattle.correlation.specs.Arithmetic.{Kind}
 use Rattle.correlation.specs.Gain.{newMets, newFroms}
 use Rattle.correlation.specs.Decode.{mets, word, score, filledRows}

@@ -16,6 +16,7 @@ use Rattle.readings.specs.Said.{survivorsOf, decodeSaid}
 use Rattle.readings.proofs.Metrics.{score-below}
 use Rattle.refusal.specs.Answer.{Said, accepted, scoreBits, doorNumber, doorRead}
 use Rattle.refusal.specs.Limits.{most}
+use Rattle.refusal.specs.Numbers.{unknownCode, unknownRate, tooMany, shortOutput, shortScratch, badReading}
 use Rattle.refusal.proofs.Doors.{Crosses, small, count-tells, score-tells, crosses-unless, crosses-at-bad}
 use Rattle.trellis.specs.Choice.{knownCode, knownRate, codeOf, patternOf}
 use Rattle.trellis.specs.Codeword.{stepsOf}
@@ -29,12 +30,12 @@ crosses-checked :
     {A : Type 0} (value : A → ℕ) (code rate count : ℕ) (rest : Said A) →
     (count ≤ most → Crosses value rest) → Crosses value (checked code rate count rest)
 crosses-checked value code rate count rest later =
-    crosses-unless value (not (knownCode code)) 1 _ (omega arith)
-    (λ _. crosses-unless value (not (knownRate code rate)) 2 _ (omega arith)
-    (λ _. crosses-unless value (ltb most count) 3 rest (omega arith) (λ few. later (ltb-false most count few))))
+    crosses-unless value (not (knownCode code)) unknownCode _ (omega arith)
+    (λ _. crosses-unless value (not (knownRate code rate)) unknownRate _ (omega arith)
+    (λ _. crosses-unless value (ltb most count) tooMany rest (omega arith) (λ few. later (ltb-false most count few))))
 
 crosses-roomed : (need room : ℕ) → need < 2 ^ 32 → Crosses itself (roomed need room)
-crosses-roomed need room below = crosses-unless itself (ltb room need) 4 (accepted need) (omega arith) (λ _. small below)
+crosses-roomed need room below = crosses-unless itself (ltb room need) shortOutput (accepted need) (omega arith) (λ _. small below)
 
 -- two coded bits at most for each step, and no more than 16 zeros behind the info bits
 length-below : (code rate count : ℕ) → count ≤ most → codedLengthOf code rate count < 2 ^ 32
@@ -45,14 +46,15 @@ pub plain-tells : (count room : ℕ) → doorRead (doorNumber (plainSaid count r
 unfolding plainSaid
 plain-tells count room =
     count-tells _
-    (crosses-unless itself (ltb most count) 3 _ (omega arith)
+    (crosses-unless itself (ltb most count) tooMany _ (omega arith)
     (λ few. crosses-roomed (2 * count) room (omega (arith, ltb-false most count few))))
 
 pub encode-tells : (code rate count room : ℕ) → doorRead (doorNumber (encodeSaid code rate count room)) ≡ encodeSaid code rate count room
 unfolding encodeSaid
 encode-tells code rate count room =
     count-tells _
-    (crosses-checked itself code rate count _ (λ few. crosses-roomed (codedLengthOf code rate count) room (length-below code rate count few)))
+    (crosses-checked itself code rate count _
+    (λ few. crosses-roomed (codedLengthOf code rate count) room (length-below code rate count few)))
 
 pub length-tells : (code rate count : ℕ) → doorRead (doorNumber (lengthSaid code rate count)) ≡ lengthSaid code rate count
 unfolding lengthSaid
@@ -75,7 +77,8 @@ decode-tells code rate info readings room scratch =
     ) in
     score-tells _
     (crosses-checked bits code rate info _
-    (λ few. crosses-unless bits (ltb room info) 4 _ (omega arith)
-    (λ _. crosses-unless bits (ltb scratch (survivorsOf code info)) 5 _ (omega arith)
-    (λ _. crosses-at-bad bits 6 finite used (accepted (score (codeOf code) (patternOf code rate) readings info)) (omega arith) (few-used few)
+    (λ few. crosses-unless bits (ltb room info) shortOutput _ (omega arith)
+    (λ _. crosses-unless bits (ltb scratch (survivorsOf code info)) shortScratch _ (omega arith)
+    (λ _. crosses-at-bad bits badReading finite used (accepted (score (codeOf code) (patternOf code rate) readings info))
+    (omega arith) (few-used few)
     (small (score-below (codeOf code) (code-narrow code .some) (patternOf code rate) readings info))))))

@@ -8,25 +8,26 @@ use borrow.Author.Tests.{lt-ltb, le-ltb, ltb-false}
 use lib.Dec.{ltb}
 use Rattle.refusal.specs.Answer.{Said, accepted, refused, refuseWhen}
 use Rattle.refusal.specs.Limits.{most}
+use Rattle.refusal.specs.Numbers.{unknownCode, unknownRate, tooMany, shortOutput}
 use Rattle.refusal.proofs.Told.{accepted-past}
 use Rattle.trellis.specs.Choice.{codes, knownCode, ratesOf, knownRate}
-use Rattle.encoder.specs.Encode.{codedLengthOf, checkedTo, choiceRefusal, checked, roomed, lengthSaid, encodeSaid, plainSaid}
+use Rattle.encoder.specs.Encode.{codedLengthOf, checkedTo, choiceRefusal, checked, lengthSaid, encodeSaid, plainSaid}
 use Rattle.encoder.specs.Promise.{Decides}
 
 -- ---- the number of the refusal, test by test
 
 module _ (limit code rate count : ℕ) where
-  pub no-code : codes ≤ code → Decides limit code rate count 1
+  pub no-code : codes ≤ code → Decides limit code rate count unknownCode
   unfolding choiceRefusal
   no-code h = record { decided = rw (le-ltb code codes h) }
 
   module _ (known : code < codes) where
-    pub no-rate : ratesOf code ≤ rate → Decides limit code rate count 2
+    pub no-rate : ratesOf code ≤ rate → Decides limit code rate count unknownRate
     unfolding choiceRefusal
     no-rate h = record { decided = rw (lt-ltb code codes known, le-ltb rate (ratesOf code) h) }
 
     module _ (known' : rate < ratesOf code) where
-      pub too-many : limit < count → Decides limit code rate count 3
+      pub too-many : limit < count → Decides limit code rate count tooMany
       unfolding choiceRefusal
       too-many h =
           record { decided = rw (lt-ltb code codes known, lt-ltb rate (ratesOf code) known', lt-ltb limit count h) }
@@ -39,10 +40,10 @@ module _ (limit code rate count : ℕ) where
 -- ---- what it decides
 
 abbrev three : {A : Type 0} → Bool → Bool → Bool → Said A → Said A
-three a b c rest = refuseWhen a 1 (refuseWhen b 2 (refuseWhen c 3 rest))
+three a b c rest = refuseWhen a unknownCode (refuseWhen b unknownRate (refuseWhen c tooMany rest))
 
 abbrev first : Bool → Bool → Bool → ℕ
-first a b c = cond a 1 (cond b 2 (cond c 3 0))
+first a b c = cond a unknownCode (cond b unknownRate (cond c tooMany 0))
 
 stops : {A : Type 0} (a b c : Bool) (rest : Said A) → (first a b c ≡ 0 → ⊥) → three a b c rest ≡ refused (first a b c) 0
 stops true b c rest h = refl
@@ -95,9 +96,9 @@ module _ {limit code rate count number : ℕ} (is : Decides limit code rate coun
 pub checked-past :
     {A : Type 0} (code rate count : ℕ) (rest : Said A) (a : A) → checked code rate count rest ≡ accepted a → rest ≡ accepted a
 checked-past code rate count rest a e =
-    accepted-past (ltb most count) 3 rest a
-    (accepted-past (not (knownRate code rate)) 2 _ a
-    (accepted-past (not (knownCode code)) 1 _ a
+    accepted-past (ltb most count) tooMany rest a
+    (accepted-past (not (knownRate code rate)) unknownRate _ a
+    (accepted-past (not (knownCode code)) unknownCode _ a
     e))
 
 -- ---- the coded length, and the encoder
@@ -117,7 +118,7 @@ module _ {code rate count number : ℕ} (is : Decides most code rate count numbe
     length-is = choice-passes is none _
 
     module _ {need : ℕ} (needs : need ≡ codedLengthOf code rate count) (room : ℕ) where
-      pub encode-short : room < need → encodeSaid code rate count room ≡ refused 4 0
+      pub encode-short : room < need → encodeSaid code rate count room ≡ refused shortOutput 0
       unfolding encodeSaid
       encode-short h = choice-passes is none _ ∙ rw (← needs, lt-ltb room need h)
 
@@ -127,11 +128,11 @@ module _ {code rate count number : ℕ} (is : Decides most code rate count numbe
 
 -- ---- the plain encoder
 
-pub plain-many : (count room : ℕ) → most < count → plainSaid count room ≡ refused 3 0
+pub plain-many : (count room : ℕ) → most < count → plainSaid count room ≡ refused tooMany 0
 unfolding plainSaid
 plain-many count room h = rw (lt-ltb most count h)
 
-pub plain-short : (count room : ℕ) → count ≤ most → room < 2 * count → plainSaid count room ≡ refused 4 0
+pub plain-short : (count room : ℕ) → count ≤ most → room < 2 * count → plainSaid count room ≡ refused shortOutput 0
 unfolding plainSaid
 plain-short count room few h = rw (le-ltb most count few, lt-ltb room (2 * count) h)
 

@@ -6,6 +6,7 @@ use lib.Dec.{ltb}
 use lib.ListN.{length}
 use Rattle.refusal.specs.Answer.{accepted}
 use Rattle.refusal.specs.Limits.{most}
+use Rattle.refusal.specs.Numbers.{tooMany, shortOutput}
 use Rattle.refusal.proofs.Told.{accepted-past, accepted-told}
 use Rattle.trellis.specs.Choice.{k5, half, codeOf, patternOf}
 use Rattle.trellis.specs.Codeword.{lowestBits}
@@ -23,7 +24,7 @@ length-plain bits = length-sent k5 half (rate-pattern 0 0) (lowestBits bits) (le
 
 -- what was accepted had room
 roomed-past : (need room n : ℕ) → roomed need room ≡ accepted n → need ≡ n
-roomed-past need room n e = accepted-told need n (accepted-past (ltb room need) 4 (accepted need) n e)
+roomed-past need room n e = accepted-told need n (accepted-past (ltb room need) shortOutput (accepted need) n e)
 
 -- `punctured_coded_len_with`
 pub length-count :
@@ -46,4 +47,4 @@ encode-count code rate room info n e =
 pub plain-count : (room : ℕ) (bits : List ℕ) (n : ℕ) → plainSaid (length bits) room ≡ accepted n → length (plainWord bits) ≡ n
 unfolding plainSaid
 plain-count room bits n e =
-    length-plain bits ∙ roomed-past _ room n (accepted-past (ltb most (length bits)) 3 (roomed (2 * length bits) room) n e)
+    length-plain bits ∙ roomed-past _ room n (accepted-past (ltb most (length bits)) tooMany (roomed (2 * length bits) room) n e)

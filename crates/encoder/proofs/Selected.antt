@@ -8,7 +8,7 @@ use Rattle.refusal.specs.Lent.{over, Lent}
 use Rattle.trellis.specs.declared.Selected.{Selected}
 use Rattle.trellis.specs.Choice.{codeOf, patternOf, keepOf}
 use Rattle.trellis.specs.Keep.{Keep, codedLength}
-use Rattle.trellis.specs.Post.{Chooses, Narrow, Rows}
+use Rattle.trellis.specs.Inner.{Chooses, Narrow, Rows}
 use Rattle.trellis.proofs.Chosen.{code-narrow, rate-held, half-length}
 use Rattle.trellis.proofs.Sent.{codeword-sent}
 use Rattle.encoder.specs.Encode.{codedLengthOf, encodeWord, plainWord}

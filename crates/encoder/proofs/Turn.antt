@@ -9,54 +9,21 @@ use native.Mathlib.Omega.{arith}
 use lib.Dec.{eqb}
 use lib.ListN.{length, getD, take, length-append}
 use lib.Seq.{length-take-le}
-use Rattle.refusal.specs.Lent.{over, Lent}
-use Rattle.refusal.proofs.Over.{over-none, over-more, length-over}
+use Rattle.refusal.specs.Lent.{over, RoomFor, PutsAt}
+use Rattle.refusal.proofs.Pieces.{Fronted, fronted-none, put-sized, put-adds}
 use Rattle.trellis.specs.declared.ConvCode.{ConvCode}
 use Rattle.trellis.specs.declared.KeepPattern.{KeepPattern}
 use Rattle.trellis.specs.declared.Pair.{Pair}
 use Rattle.trellis.specs.Choice.{keepOf}
 use Rattle.trellis.specs.Codeword.{coded0, coded1, sentBy, lowestBits}
 use Rattle.trellis.specs.Keep.{Keep, keeps0, keeps1, keptOf, keptThrough}
-use Rattle.trellis.specs.Post.{Taken, Branched}
+use Rattle.trellis.specs.Inner.{Branch, Branched}
 use Rattle.trellis.specs.State.{nextState, stateAfter}
 use Rattle.trellis.proofs.Columns.{rows-pattern, keeps0-column, keeps1-column, column-next}
 use Rattle.trellis.proofs.Kept.{length-only, coded-suc, coded-mono}
 use Rattle.trellis.proofs.Sent.{length-sent, lowest-inputs, coded0-state, coded1-state}
 use Rattle.trellis.proofs.States.{state-below}
-use Rattle.encoder.specs.Inner.{keptBy, RoomFor, PutsAt, Ready}
-
--- `out` is `front` over the front of `old` and as long as it, and `at` is the place behind `front`
-pub record Fronted (front old out : List ℕ) (at : ℕ) : Type 0 where
-  pub place : at ≡ length front
-  pub list : out ≡ over front old
-  pub size : length out ≡ length old
-
-pub fronted-none : (old : List ℕ) → Fronted [] old old 0
-fronted-none old = record { place = refl; list = over-none old; size = refl }
-
--- a piece written at the place behind the front
-pub piece-adds :
-    (front old out new piece : List ℕ) (at next : ℕ) →
-    Fronted front old out at → next ≡ at + length piece → new ≡ over (take at out ++ piece) out → length new ≡ length out →
-    Fronted (front ++ piece) old new next
-piece-adds front old out new piece at next f g h z =
-    record {
-      place = g ∙ rw (f .place) (sym (length-append front piece));
-      list = h ∙ rw (f .list) (over-more front piece old at (f .place));
-      size = z ∙ f .size;
-    }
-
--- the same of a put
-put-adds :
-    {front old piece : List ℕ} {at next : ℕ} {put : Lent ℕ} →
-    Fronted front old (put .given) at → RoomFor piece at (put .given) → PutsAt piece at next put →
-    Fronted (front ++ piece) old (put .left) next
-put-adds {front} {old} {piece} {at} {next} {put} f room puts =
-    let new = take at (put .given) ++ piece in
-    let fits : length new ≤ length (put .given) =
-    simp length-append (omega (arith, length-take-le at (put .given) (omega arith))) in
-    piece-adds _ _ _ _ _ _ _ f (puts .place) (puts .output)
-    (ap length (puts .output) ∙ length-over new (put .given) fits)
+use Rattle.encoder.specs.Inner.{keptBy, Ready}
 
 -- The invariant: after t of the steps, s is the state, column is t's, and what was sent stands over the front of out.
 pub record Encoded
@@ -141,8 +108,8 @@ module _
 
   -- the input b of step t
   module _ {b : ℕ} (input : b ≡ getD inputs t 0) where
-    pub taken-now : Taken code s b
-    taken-now =
+    pub branch-now : Branch code s b
+    branch-now =
         record {
           held = now .ready .narrow;
           state = rw (now .state) (state-below code (now .ready .narrow .some) inputs (lowest-inputs bits) t);
@@ -170,7 +137,7 @@ module _
           (h : t < steps) {middle : List ℕ} {behind : ℕ}
           (puts : PutsAt (first (pair .c0)) at behind (record { given = out; left = middle })) where
         first-put : Fronted (sent ++ first (pair .c0)) old middle behind
-        first-put = put-adds (now .front) (first-fits h (pair .c0)) puts
+        first-put = put-adds (now .front) puts (put-sized (first-fits h (pair .c0)) puts)
 
         pub second-fits : (v : ℕ) → RoomFor (second v) behind middle
         second-fits v =
@@ -192,5 +159,5 @@ module _
                   rw sent-suc at
                   (rw second-coded at
                   (rw first-coded at
-                  (put-adds first-put (second-fits (pair .c1)) puts')));
+                  (put-adds first-put puts' (put-sized (second-fits (pair .c1)) puts'))));
             }

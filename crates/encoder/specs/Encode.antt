@@ -6,6 +6,7 @@ use lib.Dec.{ltb}
 use lib.ListN.{length}
 use Rattle.refusal.specs.Answer.{Said, accepted, refuseWhen}
 use Rattle.refusal.specs.Limits.{most}
+use Rattle.refusal.specs.Numbers.{unknownCode, unknownRate, tooMany, shortOutput}
 use Rattle.trellis.specs.Choice.{k5, half, knownCode, codeOf, knownRate, patternOf}
 use Rattle.trellis.specs.Codeword.{sentBy, lowestBits, stepsOf, codeword}
 use Rattle.trellis.specs.Keep.{codedLength}
@@ -18,25 +19,25 @@ codedLengthOf code rate count = codedLength (patternOf code rate) (stepsOf (code
 -- the most info bits that it takes.
 abbrev pub checkedTo : {A : Type 0} → (limit code rate count : ℕ) → Said A → Said A
 checkedTo limit code rate count rest =
-    refuseWhen (not (knownCode code)) 1
-    (refuseWhen (not (knownRate code rate)) 2
-    (refuseWhen (ltb limit count) 3
+    refuseWhen (not (knownCode code)) unknownCode
+    (refuseWhen (not (knownRate code rate)) unknownRate
+    (refuseWhen (ltb limit count) tooMany
     rest))
 
 -- the number of the refusal among these, and 0 where they pass
 unfoldable pub choiceRefusal : (limit code rate count : ℕ) → ℕ
 choiceRefusal limit code rate count =
-    cond (not (knownCode code)) 1
-    (cond (not (knownRate code rate)) 2
-    (cond (ltb limit count) 3
+    cond (not (knownCode code)) unknownCode
+    (cond (not (knownRate code rate)) unknownRate
+    (cond (ltb limit count) tooMany
     0))
 
 abbrev pub checked : {A : Type 0} → (code rate count : ℕ) → Said A → Said A
 checked code rate count rest = checkedTo most code rate count rest
 
--- an output of `need` elements, or refusal 4 where the room is shorter
+-- an output of `need` elements, refused where the room is shorter
 abbrev pub roomed : (need room : ℕ) → Said ℕ
-roomed need room = refuseWhen (ltb room need) 4 (accepted need)
+roomed need room = refuseWhen (ltb room need) shortOutput (accepted need)
 
 -- `punctured_coded_len_with`
 unfoldable pub lengthSaid : (code rate count : ℕ) → Said ℕ
@@ -51,7 +52,7 @@ encodeWord code rate info = codeword (codeOf code) (patternOf code rate) info
 
 -- `conv_encode`: K5 at rate 1/2 with no zeros added, so two coded bits for each input
 unfoldable pub plainSaid : (count room : ℕ) → Said ℕ
-plainSaid count room = refuseWhen (ltb most count) 3 (roomed (2 * count) room)
+plainSaid count room = refuseWhen (ltb most count) tooMany (roomed (2 * count) room)
 
 unfoldable pub plainWord : List ℕ → List ℕ
 plainWord bits = sentBy k5 half (lowestBits bits) (length bits)

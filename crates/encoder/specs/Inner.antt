@@ -1,9 +1,9 @@
 -- What the inner functions ask and ensure. Definitions only.
-use mathlib.Core.List.{List, _++_}
+use mathlib.Core.List.{List}
 use mathlib.Core.Path.{_≡_}
-use Prim.Native.Nat.{ℕ, _+_, _≤_}
+use Prim.Native.Nat.{ℕ, _≤_}
 use lib.Dec.{eqb}
-use lib.ListN.{length, take}
+use lib.ListN.{length}
 use Rattle.refusal.specs.Lent.{over, Lent}
 use Rattle.trellis.specs.declared.ConvCode.{ConvCode}
 use Rattle.trellis.specs.declared.KeepPattern.{KeepPattern}
@@ -11,19 +11,11 @@ use Rattle.trellis.specs.declared.Selected.{Selected}
 use Rattle.trellis.specs.Choice.{patternOf, keepOf}
 use Rattle.trellis.specs.Codeword.{sentBy, lowestBits}
 use Rattle.trellis.specs.Keep.{Keep, onlyIf, codedLength}
-use Rattle.trellis.specs.Post.{Chooses, Narrow, Rows}
+use Rattle.trellis.specs.Inner.{Chooses, Narrow, Rows}
 
 -- what a column of a keep pattern sends of a coded bit: a 1 keeps it
 abbrev pub keptBy : (column bit : ℕ) → List ℕ
 keptBy column bit = onlyIf (eqb column 1) bit
-
--- `put`: room for it behind the place `at`, and what it leaves
-abbrev pub RoomFor : (piece : List ℕ) → (at : ℕ) → (out : List ℕ) → Type 0
-RoomFor piece at out = at + length piece ≤ length out
-
-pub record PutsAt (piece : List ℕ) (at next : ℕ) (out : Lent ℕ) : Type 0 where
-  pub place : next ≡ at + length piece
-  pub output : out .left ≡ over (take at (out .given) ++ piece) (out .given)
 
 -- `encode`: a code and a keep pattern as the code holds them, and room for what the steps send
 pub record Ready (code : ConvCode) (keep : KeepPattern) (steps : ℕ) (out : List ℕ) : Type 0 where

@@ -2,11 +2,11 @@
 ghost use mathlib.Core.Path.{_≡_};
 ghost use lib.ListN.{getD};
 ghost use Rattle.refusal.specs.Answer.{Counts};
-ghost use Rattle.refusal.specs.Lent.{lent};
+ghost use Rattle.refusal.specs.Lent.{lent, RoomFor, PutsAt};
 ghost use Rattle.trellis.specs.Choice.{codeOf, patternOf, keepOf};
 ghost use Rattle.trellis.specs.Codeword.{lowestBits};
 ghost use Rattle.encoder.specs.Promise.{Decides, Measures, Encodes, EncodesPlain};
-ghost use Rattle.encoder.specs.Inner.{keptBy, RoomFor, PutsAt, Ready, ReadyAt, Sends};
+ghost use Rattle.encoder.specs.Inner.{keptBy, Ready, ReadyAt, Sends};
 use refusal::Counted;
 use trellis::ConvCode;
 use trellis::KeepPattern;
@@ -80,13 +80,13 @@ pub fn refused_choice(code: u8, rate: u8, info: usize, limit: usize) -> u8
     ensures { λ r. ⌜ Decides limit code rate info r ⌝ }
 {
     if trellis::CODES <= code {
-        return 1;
+        return refusal::UNKNOWN_CODE;
     }
     if trellis::RATES <= rate {
-        return 2;
+        return refusal::UNKNOWN_RATE;
     }
     if limit < info {
-        return 3;
+        return refusal::TOO_MANY;
     }
     0
 }
@@ -115,7 +115,7 @@ pub fn conv_encode_punctured_with(code: u8, info: &[u8], rate: u8, out: &mut [u8
     let steps = info.len() + chosen.code.width;
     let need = trellis::coded_len(chosen.keep, steps);
     if out.len() < need {
-        return refusal::no_count(4);
+        return refusal::no_count(refusal::SHORT_OUTPUT);
     }
     encode_at(code, rate, chosen, info, steps, out);
     Counted::Count(need)
@@ -127,11 +127,11 @@ pub fn conv_encode(bits: &[u8], out: &mut [u8]) -> Counted
 {
     let count = bits.len();
     if refusal::MOST < count {
-        return refusal::no_count(3);
+        return refusal::no_count(refusal::TOO_MANY);
     }
     let twice = 2 * count;
     if out.len() < twice {
-        return refusal::no_count(4);
+        return refusal::no_count(refusal::SHORT_OUTPUT);
     }
     encode_at(0, 0, trellis::choose(0, 0), bits, count, out);
     Counted::Count(twice)

@@ -1,10 +1,9 @@
 // Tests on one f32, an f32 from its four bytes, and its bits.
-ghost use mathlib.Core.List.{_++_};
 ghost use mathlib.Core.Path.{_≡_};
 ghost use Prim.Native.Nat.{min};
 ghost use lib.Ieee.{binary32, toBits};
-ghost use lib.ListN.{length, take, drop};
-ghost use Rattle.f32s.specs.Single.{finite, within, ofBytes, allOfBytes};
+ghost use Rattle.f32s.specs.Single.{finite, within, ofBytes};
+ghost use Rattle.f32s.specs.Inner.{Fills};
 
 // Neither NaN nor infinite: a NaN is below nothing.
 pub fn is_finite(x: f32) -> bool
@@ -35,8 +34,7 @@ pub fn from_bytes(b0: u8, b1: u8, b2: u8, b3: u8) -> f32
 // The f32s of bytes, four bytes each: as many as there are and there is room for. They go to the front of
 // values; answers how many.
 pub fn from_all_bytes(bytes: &[u8], values: &mut [f32]) -> usize
-    ensures count { λ r. ⌜ r ≡ length (take (length (now (values .entry))) (allOfBytes (now (bytes .entry)))) ⌝ }
-    ensures filled { λ r. ⌜ now (values .exit) ≡ take (length (now (values .entry))) (allOfBytes (now (bytes .entry))) ++ drop r (now (values .entry)) ⌝ }
+    ensures { λ r. ⌜ Fills (now (bytes .entry)) (now (values .entry)) (now (values .exit)) r ⌝ }
 {
     let count = lesser(values.len(), bytes.len() / 4);
     for i in 0..count {

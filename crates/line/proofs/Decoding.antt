@@ -25,11 +25,13 @@ use Rattle.refusal.specs.declared.Decoded.the-variants as variants
 use Rattle.refusal.specs.declared.Refusal.{Refusal}
 use Rattle.refusal.specs.Lent.{over, leaves}
 use Rattle.refusal.specs.Limits.{most}
+use Rattle.refusal.specs.Numbers.{badInput}
 use Rattle.trellis.specs.Choice.{k7, codeOf, patternOf}
 use Rattle.trellis.specs.Codeword.{stepsOf}
 use Rattle.trellis.proofs.Chosen.{code-width}
-use Rattle.line.specs.Line.{mostInfo, mostSurvivors, shaped, codeIn, rateIn, infoIn, readingsIn, lineSaid, wordIn, lineOf, output}
-use Rattle.line.specs.Post.{refusalIn}
+use Rattle.line.specs.Line.{mostInfo, mostSurvivors, shaped, codeIn, rateIn, infoIn, readingsIn}
+use Rattle.line.specs.Line.{lineSaid, wordIn, lineOf, output}
+use Rattle.line.specs.Inner.{refusalIn, refusalSaid, RefusalIn}
 
 -- ---- the shape of the input
 
@@ -40,11 +42,13 @@ shaped-long n h =
       | no long ↦ omega arith
     ]
 
-pub unshaped-said : (input : List ℕ) → shaped (length input) ≡ false → lineSaid input ≡ refused 10 0
+pub unshaped-said : (input : List ℕ) → shaped (length input) ≡ false → lineSaid input ≡ refused badInput 0
 unfolding lineSaid
 unshaped-said input h = rw h
 
-pub output-refused : (input : List ℕ) (number place : ℕ) → lineSaid input ≡ refused number place → output input ≡ lineOf (refused number place) []
+pub output-refused :
+    (input : List ℕ) (number place : ℕ) → lineSaid input ≡ refused number place →
+    output input ≡ lineOf (refused number place) []
 unfolding output
 output-refused input number place e = rw e
 
@@ -101,11 +105,10 @@ module _ {input bytes : List ℕ} {number : ℕ} {answer : Decoded} (call : Call
   said-answer = said-decoded ∙ sym (call .says)
 
   pub refused-output :
-      {r : Refusal} → answer ≡ variants.Refused r → (number place : ℕ) → refused number place ≡ refusalIn (wordSaid answer) →
-      output input ≡ lineOf (refused number place) []
-  refused-output e number place is-in =
-      output-refused input number place
-      (said-answer ∙ ap wordSaid e ∙ sym (is-in ∙ ap (λ (a : Decoded). refusalIn (wordSaid a)) e))
+      {r found : Refusal} → answer ≡ variants.Refused r → RefusalIn answer found → output input ≡ lineOf (refusalSaid found) []
+  refused-output e is-in =
+      output-refused input _ _
+      (said-answer ∙ ap wordSaid e ∙ sym (is-in .same ∙ ap (λ (a : Decoded). refusalIn (wordSaid a)) e))
 
   module _ {score : Float} (e : answer ≡ variants.Word score) where
     said-accepted : lineSaid input ≡ accepted score

@@ -1,5 +1,5 @@
--- Any two outcomes that a contract allows are equal. `Post` is the contract: of what the call is given, what it returns, and what it leaves in each
--- argument. Assumes nothing.
+-- Any two outcomes that a contract allows are equal. `Post` is the contract: of what the call is given, what it returns, and
+-- what it leaves in each argument. Assumes nothing.
 use mathlib.Core.List.{List}
 use mathlib.Core.Path.{_≡_, sym, ap₂, _∙_}
 use Prim.Native.Nat.{ℕ}
@@ -14,5 +14,6 @@ pub answer-determined :
     (κs : _) (given : _) (r r' : Line) (left left' : _) → answer.Post κs given r left → answer.Post κs given r' left' → r ≡ r'
 answer-determined κs given r r' left left' p q = ap₂ made (cc) (cc)
 
-pub room-determined : (κs : _) (given : _) (r r' : List ℕ) (left left' : _) → room.Post κs given r left → room.Post κs given r' left' → r ≡ r'
+pub room-determined :
+    (κs : _) (given : _) (r r' : List ℕ) (left left' : _) → room.Post κs given r left → room.Post κs given r' left' → r ≡ r'
 room-determined κs given r r' left left' p q = p ∙ sym q

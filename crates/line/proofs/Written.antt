@@ -1,33 +1,64 @@
--- A text written to a list element by element, and texts behind one another. Assumes nothing.
+-- A text put to a list element by element, and texts behind one another. Assumes nothing.
 use mathlib.Core.List.{List, [], _∷_, _++_, map}
-use mathlib.Core.Path.{_≡_, refl, ap, _∙_}
+use mathlib.Core.Path.{_≡_, refl, sym, ap, _∙_}
 use Prim.Native.Nat.{ℕ, _+_, _-_, _≤_, _<_}
 use native.Mathlib.Numerals.{add-one}
 use native.Mathlib.Omega.{arith}
 use lib.Dec.{lit≤}
-use lib.ListN.{length, getD, take, set, drop, replicate, length-append, length-drop, length-map}
-use lib.Seq.{paste, paste-suc, take-all, length-take-le}
-use Rattle.refusal.specs.Lent.{over}
-use Rattle.encoder.proofs.Turn.{Fronted, fronted-none, piece-adds}
+use lib.ListN.{length, getD, take, set, drop, replicate, length-append, length-drop, length-map, length-set, List·getD-map}
+use lib.Seq.{paste, paste-zero, paste-suc, take-all, length-take-le}
+use Rattle.refusal.specs.Lent.{over, Lent, RoomFor, PutsAt}
+use Rattle.refusal.proofs.Pieces.{fronted-none, put-adds}
 use Rattle.line.specs.declared.Line.{Line}
 use Rattle.line.specs.Line.{mostInfo, lineBytes}
-use Rattle.line.specs.Post.{Holds}
+use Rattle.line.specs.Promise.{Prints}
 use Rattle.line.specs.Text.{bitText, wordText}
 
--- what a call that writes a text leaves in its output
-abbrev pub with-text : List ℕ → ℕ → List ℕ → List ℕ
-with-text old at text = over (take at old ++ text) old
+-- ---- element by element
 
-module _ (old : List ℕ) (at : ℕ) (text : List ℕ) (fits : at + length text ≤ length old) where
-  -- one more element of the text
-  pub one-pasted : (z i : ℕ) → i < length text → (v : ℕ) → v ≡ getD text i z → set (paste old at text i) (at + i) v ≡ paste old at text (i + 1)
-  one-pasted z i h v e = rw (e, add-one i) (paste-suc old at text i z (omega arith) h)
+-- the invariant: the first i elements of the text stand at the place `at`
+pub record Pasted (old : List ℕ) (at : ℕ) (text out : List ℕ) (i : ℕ) : Type 0 where
+  pub fits : RoomFor text at old
+  pub turns : i ≤ length text
+  pub size : length out ≡ length old
+  pub list : out ≡ paste old at text i
 
-  -- the whole text
-  pub all-pasted : (n : ℕ) → n ≡ length text → paste old at text n ≡ with-text old at text
+pub pasted-starts : {old : List ℕ} {at : ℕ} {text : List ℕ} → RoomFor text at old → Pasted old at text old 0
+pasted-starts {old} {at} {text} fits =
+    record { fits = fits; turns = omega arith; size = refl; list = paste-zero old at text }
+
+module _ {old : List ℕ} {at : ℕ} {text out : List ℕ} {i : ℕ} (so-far : Pasted old at text out i) where
+  pub pasted-goes-on :
+      i < length text → (z : ℕ) {v : ℕ} → v ≡ getD text i z → Pasted old at text (set out (at + i) v) (i + 1)
+  pasted-goes-on h z {v} e =
+      record {
+        fits = so-far .fits;
+        turns = omega (arith, h);
+        size = length-set out (at + i) v ∙ so-far .size;
+        list =
+            ap (λ (o : List ℕ). set o (at + i) v) (so-far .list)
+            ∙ rw (e, add-one i) (paste-suc old at text i z (omega (arith, so-far .fits, h)) h);
+      }
+
+  pub pasted-ends : length text ≤ i → PutsAt text at (at + length text) (record { given = old; left = out })
   unfolding over
-  all-pasted n e =
-      rw (take-all n text (omega arith), length-append (take at old) text, length-take-le at old (omega arith), e)
+  pasted-ends h =
+      let last : i ≡ length text = omega (arith, so-far .turns, h) in
+      let inside : at ≤ length old = omega (arith, so-far .fits) in
+      record {
+        place = refl;
+        output =
+            so-far .list
+            ∙ rw (take-all i text (omega (arith, last)), length-append (take at old) text, length-take-le at old inside, last);
+      }
+
+-- a text that was put is the text that was meant
+pub puts-as :
+    {put meant : List ℕ} {at next : ℕ} {out : Lent ℕ} → put ≡ meant → PutsAt put at next out → PutsAt meant at next out
+puts-as e puts = rw e at puts
+
+pub room-as : {put meant : List ℕ} → put ≡ meant → (at : ℕ) (out : List ℕ) → RoomFor meant at out → RoomFor put at out
+room-as e at out room = rw e room
 
 -- a slice from i on, as the code takes it
 pub rest-taken : (l : List ℕ) (i n : ℕ) → n ≡ length l → take (n - i) (drop i l) ≡ drop i l
@@ -35,11 +66,11 @@ rest-taken l i n e = take-all (n - i) (drop i l) (omega (arith, length-drop i l)
 
 -- ---- a word's text
 
-pub empty-text : (bits : List ℕ) → length bits ≡ 0 → wordText bits ≡ 45 ∷ []
+pub empty-text : (bits : List ℕ) → length bits ≡ 0 → 45 ∷ [] ≡ wordText bits
 empty-text [] h = refl
 empty-text (b ∷ bits) h = absurd (omega arith)
 
-pub bits-text : (bits : List ℕ) → (length bits ≡ 0 → ⊥) → wordText bits ≡ map bitText bits
+pub bits-text : (bits : List ℕ) → (length bits ≡ 0 → ⊥) → map bitText bits ≡ wordText bits
 bits-text [] h = absurd (h refl)
 bits-text (b ∷ bits) h = refl
 
@@ -47,37 +78,50 @@ pub text-few : (bits : List ℕ) → length bits ≤ mostInfo → length (wordTe
 text-few [] h = lit≤ tt
 text-few (b ∷ bits) h = rw (length-map (b ∷ bits) bitText) h
 
+-- the turn of its bit i
+module _ (word : List ℕ) {old : List ℕ} {at : ℕ} {out : List ℕ} {i : ℕ} (so-far : Pasted old at (map bitText word) out i) where
+  pub bit-inside : i < length word → at + i < length out
+  bit-inside h = omega (arith, h, length-map word bitText, so-far .fits, so-far .size)
+
+  pub word-goes-on :
+      i < length word → {v : ℕ} → v ≡ bitText (getD word i 0) →
+      Pasted old at (map bitText word) (set out (at + i) v) (i + 1)
+  word-goes-on h e =
+      pasted-goes-on so-far (omega (arith, h, length-map word bitText)) (bitText 0) (e ∙ sym (List·getD-map bitText word i 0))
+
+  pub word-ends :
+      (length word ≡ 0 → ⊥) → length word ≤ i →
+      PutsAt (wordText word) at (at + length word) (record { given = old; left = out })
+  word-ends some h =
+      let long = length-map word bitText in
+      let puts = pasted-ends so-far (omega (arith, h, long)) in
+      puts-as (bits-text word some) (record { place = omega (arith, long); output = puts .output })
+
 -- ---- a line
 
 abbrev pub zeros : List ℕ
 zeros = replicate lineBytes 0
 
--- what a call that writes a text tells: the next place, and the list, which keeps its length
+-- a call that puts a text, and keeps the length of what it puts it to
 pub record Wrote (old : List ℕ) (at : ℕ) (text new : List ℕ) (next : ℕ) : Type 0 where
-  pub told : (next ≡ at + length text) × (new ≡ with-text old at text)
+  pub puts : PutsAt text at next (record { given = old; left = new })
   pub size : length new ≡ length old
-
-added : {front old out text new : List ℕ} {at next : ℕ} → Fronted front old out at → Wrote out at text new next → Fronted (front ++ text) old new next
-added {front} {old} {out} {text} {new} {at} {next} f w = piece-adds front old out new text at next f (w .told .0) (w .told .1) (w .size)
 
 -- a line has five texts
 pub five-texts :
-    (a b c d e : List ℕ) {u v w x y : List ℕ} {i j k l m : ℕ} →
+    {a b c d e u v w x y : List ℕ} {i j k l m : ℕ} →
     Wrote zeros 0 a u i → Wrote u i b v j → Wrote v j c w k → Wrote w k d x l → Wrote x l e y m →
-    Holds ((((a ++ b) ++ c) ++ d) ++ e) record { bytes = y; count = m }
-five-texts a b c d e first second third fourth fifth =
-    let all = added (added (added (added (added (fronted-none zeros) first) second) third) fourth) fifth in
+    Prints ((((a ++ b) ++ c) ++ d) ++ e) record { bytes = y; count = m }
+five-texts first second third fourth fifth =
+    let one = put-adds (fronted-none zeros) (first .puts) (first .size) in
+    let two = put-adds one (second .puts) (second .size) in
+    let three = put-adds two (third .puts) (third .size) in
+    let four = put-adds three (fourth .puts) (fourth .size) in
+    let all = put-adds four (fifth .puts) (fifth .size) in
     record { count = all .place; bytes = all .list }
 
 -- the line's text is within its bytes
-pub count-within : (text : List ℕ) (l : Line) → Holds text l → l .count ≤ length (l .bytes)
+pub count-within : (text : List ℕ) (l : Line) → Prints text l → l .count ≤ length (l .bytes)
 unfolding over
 count-within text l h =
     omega (arith, h .count, ap (λ (b : List ℕ). length b) (h .bytes), length-append text (drop (length text) zeros))
-
--- a text that was put is the text that was meant
-pub put-to : (at r : ℕ) (put meant : List ℕ) → r ≡ at + length put → put ≡ meant → r ≡ at + length meant
-put-to at r put meant e f = e ∙ ap (λ (l : List ℕ). at + length l) f
-
-pub put-as : (out new : List ℕ) (at : ℕ) (put meant : List ℕ) → new ≡ with-text out at put → put ≡ meant → new ≡ with-text out at meant
-put-as out new at put meant e f = e ∙ ap (with-text out at) f

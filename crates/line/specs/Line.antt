@@ -11,6 +11,7 @@ use Rattle.f32s.specs.Single.{allOfBytes}
 use Rattle.readings.specs.Decode.{word, score}
 use Rattle.readings.specs.Said.{examined}
 use Rattle.refusal.specs.Answer.{Said, accepted, refused, refuseWhen}
+use Rattle.refusal.specs.Numbers.{badInput}
 use Rattle.trellis.specs.Choice.{k7, codeOf, patternOf}
 use Rattle.trellis.specs.Codeword.{stepsOf}
 use Rattle.line.specs.Text.{hexDigits, decimal, wordText}
@@ -48,11 +49,11 @@ module _ (input : List ℕ) where
   abbrev pub readingsIn : List Float
   readingsIn = allOfBytes (drop 4 input)
 
-  -- refusal 10 first, then those of a decoding, with a limit of the program's own
+  -- a bad input is refused first, then what a decoding refuses, with a limit of the program's own
   unfoldable pub lineSaid : Said Float
   unfolding any.score
   lineSaid =
-      refuseWhen (not (shaped (length input))) 10
+      refuseWhen (not (shaped (length input))) badInput
       (checkedTo mostInfo codeIn rateIn infoIn
       (examined (take (codedLengthOf codeIn rateIn infoIn) readingsIn)
       (accepted (score (codeOf codeIn) (patternOf codeIn rateIn) readingsIn infoIn))))
@@ -80,7 +81,8 @@ newline = 10 ∷ []
 
 -- `word BITS score BITS`, or `refused NUMBER at PLACE`
 abbrev pub lineOf : Said Float → List ℕ → List ℕ
-lineOf (accepted score) bits = (((wordSpace ++ wordText bits) ++ spaceScoreSpace) ++ hexDigits 8 (toBits binary32 score)) ++ newline
+lineOf (accepted score) bits =
+    (((wordSpace ++ wordText bits) ++ spaceScoreSpace) ++ hexDigits 8 (toBits binary32 score)) ++ newline
 lineOf (refused number place) bits = (((refusedSpace ++ decimal number) ++ spaceAtSpace) ++ decimal place) ++ newline
 
 unfoldable pub output : List ℕ → List ℕ

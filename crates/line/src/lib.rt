@@ -3,9 +3,10 @@ ghost use mathlib.Core.List.{[]};
 ghost use mathlib.Core.Path.{_≡_};
 ghost use Prim.Native.Nat.{_+_, _≤_};
 ghost use lib.ListN.{length, replicate};
-ghost use Rattle.refusal.specs.Answer.{accepted, refused, wordSaid};
-ghost use Rattle.line.specs.Line.{mostBytes, mostInfo, shaped, lineOf, output};
-ghost use Rattle.line.specs.Post.{Holds, refusalIn};
+ghost use Rattle.refusal.specs.Answer.{accepted};
+ghost use Rattle.line.specs.Line.{mostBytes, mostInfo, shaped};
+ghost use Rattle.line.specs.Promise.{AnswersInput};
+ghost use Rattle.line.specs.Inner.{refusalSaid, RefusalIn, PrintsAnswer};
 
 mod text;
 
@@ -58,7 +59,7 @@ fn is_shaped(n: usize) -> bool
 
 // The refusal in an answer that is not a word.
 fn refusal_in(answer: Decoded) -> Refusal
-    ensures { λ r. ⌜ refused (r .number) (r .place) ≡ refusalIn (wordSaid answer) ⌝ }
+    ensures { λ r. ⌜ RefusalIn answer r ⌝ }
 {
     match answer {
         Decoded::Word(_) => Refusal {
@@ -70,7 +71,7 @@ fn refusal_in(answer: Decoded) -> Refusal
 }
 
 fn refused_line(r: Refusal) -> Line
-    ensures { λ l. ⌜ Holds (lineOf (refused (r .number) (r .place)) []) l ⌝ }
+    ensures { λ l. ⌜ PrintsAnswer (refusalSaid r) [] l ⌝ }
 {
     let mut bytes = [0; LINE_BYTES];
     let number_at = put(&mut bytes[..], 0, b"refused ");
@@ -83,7 +84,7 @@ fn refused_line(r: Refusal) -> Line
 
 fn word_line(word: &[u8], score: f32) -> Line
     requires { ⌜ length (now word) ≤ mostInfo ⌝ }
-    ensures { λ l. ⌜ Holds (lineOf (accepted score) (now (word .entry))) l ⌝ }
+    ensures { λ l. ⌜ PrintsAnswer (accepted score) (now (word .entry)) l ⌝ }
 {
     let mut bytes = [0; LINE_BYTES];
     let word_at = put(&mut bytes[..], 0, b"word ");
@@ -96,11 +97,11 @@ fn word_line(word: &[u8], score: f32) -> Line
 
 // The whole output for an input.
 pub fn answer(input: &[u8]) -> Line
-    ensures { λ r. ⌜ Holds (output (now (input .entry))) r ⌝ }
+    ensures { λ r. ⌜ AnswersInput (now (input .entry)) r ⌝ }
 {
     if !is_shaped(input.len()) {
         return refused_line(Refusal {
-            number: 10,
+            number: refusal::BAD_INPUT,
             place: 0,
         });
     }

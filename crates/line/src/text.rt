@@ -1,17 +1,14 @@
 // Writing to a line: texts, words and numbers, one behind the other. Each function writes at `at` and
 // answers the place behind what it wrote.
-ghost use mathlib.Core.List.{_++_};
 ghost use mathlib.Core.Path.{_≡_};
-ghost use Prim.Native.Nat.{_+_, _<_, _≤_};
-ghost use lib.ListN.{length, take};
-ghost use Rattle.refusal.specs.Lent.{over};
+ghost use Prim.Native.Nat.{_<_};
+ghost use Rattle.refusal.specs.Lent.{lent, RoomFor, PutsAt};
 ghost use Rattle.line.specs.Text.{bitText, wordText, hexDigits, decimal};
 ghost use Rattle.line.specs.Text as text;
 
 pub fn put(out: &mut [u8], at: usize, text: &[u8]) -> usize
-    requires { ⌜ at + length (now text) ≤ length (now out) ⌝ }
-    ensures place { λ r. ⌜ r ≡ at + length (now (text .entry)) ⌝ }
-    ensures output { λ _. ⌜ now (out .exit) ≡ over (take at (now (out .entry)) ++ now (text .entry)) (now (out .entry)) ⌝ }
+    requires { ⌜ RoomFor (now text) at (now out) ⌝ }
+    ensures { λ r. ⌜ PutsAt (now (text .entry)) at r (lent out) ⌝ }
 {
     for i in 0..text.len() {
         out[at + i] = text[i];
@@ -27,9 +24,8 @@ fn bit_text(b: u8) -> u8
 
 // A word's bits, and - for an empty word.
 pub fn put_word(out: &mut [u8], at: usize, word: &[u8]) -> usize
-    requires { ⌜ at + length (wordText (now word)) ≤ length (now out) ⌝ }
-    ensures place { λ r. ⌜ r ≡ at + length (wordText (now (word .entry))) ⌝ }
-    ensures output { λ _. ⌜ now (out .exit) ≡ over (take at (now (out .entry)) ++ wordText (now (word .entry))) (now (out .entry)) ⌝ }
+    requires { ⌜ RoomFor (wordText (now word)) at (now out) ⌝ }
+    ensures { λ r. ⌜ PutsAt (wordText (now (word .entry))) at r (lent out) ⌝ }
 {
     if word.len() == 0 {
         return put(out, at, b"-");
@@ -54,9 +50,8 @@ fn digit(d: u32) -> u8
 
 // Eight hex digits.
 pub fn put_hex(out: &mut [u8], at: usize, n: u32) -> usize
-    requires { ⌜ at + 8 ≤ length (now out) ⌝ }
-    ensures place { λ r. ⌜ r ≡ at + 8 ⌝ }
-    ensures output { λ _. ⌜ now (out .exit) ≡ over (take at (now (out .entry)) ++ hexDigits 8 n) (now (out .entry)) ⌝ }
+    requires { ⌜ RoomFor (hexDigits 8 n) at (now out) ⌝ }
+    ensures { λ r. ⌜ PutsAt (hexDigits 8 n) at r (lent out) ⌝ }
 {
     let mut digits = [0; 8];
     let mut rest = n;
@@ -71,9 +66,8 @@ pub fn put_hex(out: &mut [u8], at: usize, n: u32) -> usize
 
 // A number in decimal.
 pub fn put_decimal(out: &mut [u8], at: usize, n: u32) -> usize
-    requires { ⌜ at + 10 ≤ length (now out) ⌝ }
-    ensures place { λ r. ⌜ r ≡ at + length (decimal n) ⌝ }
-    ensures output { λ _. ⌜ now (out .exit) ≡ over (take at (now (out .entry)) ++ decimal n) (now (out .entry)) ⌝ }
+    requires { ⌜ RoomFor (decimal n) at (now out) ⌝ }
+    ensures { λ r. ⌜ PutsAt (decimal n) at r (lent out) ⌝ }
 {
     let mut digits = [0; 10];
     let mut rest = n;

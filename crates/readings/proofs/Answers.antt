@@ -19,6 +19,7 @@ use Rattle.refusal.specs.Answer.{Said, accepted, refused, refuseWhen, Scores}
 use Rattle.refusal.specs.First.{firstBad}
 use Rattle.refusal.specs.Lent.{over, Lent}
 use Rattle.refusal.specs.Limits.{most}
+use Rattle.refusal.specs.Numbers.{shortOutput, shortScratch, badReading}
 use Rattle.refusal.proofs.FirstBad.{some-bad, none-bad, accepted-past-bad}
 use Rattle.refusal.proofs.Over.{both-accepted}
 use Rattle.refusal.proofs.Told.{accepted-told, accepted-past}
@@ -83,10 +84,10 @@ module _ (code rate info : ℕ) (readings : List Float) (room scratch : ℕ) whe
       examined (take (codedLengthOf code rate info) readings) (accepted (score (codeOf code) (patternOf code rate) readings info))
 
   abbrev scratch-tested : Said Float
-  scratch-tested = refuseWhen (ltb scratch (survivorsOf code info)) 5 readings-tested
+  scratch-tested = refuseWhen (ltb scratch (survivorsOf code info)) shortScratch readings-tested
 
   abbrev room-tested : Said Float
-  room-tested = refuseWhen (ltb room info) 4 scratch-tested
+  room-tested = refuseWhen (ltb room info) shortOutput scratch-tested
 
   module _ {number : ℕ} (decides : Decides most code rate info number) where
     pub no-choice : (number ≡ 0 → ⊥) → said ≡ refused number 0
@@ -98,14 +99,14 @@ module _ (code rate info : ℕ) (readings : List Float) (room scratch : ℕ) whe
       unfolding decodeSaid
       few-enough = choice-passes decides c room-tested
 
-      pub no-room : room < info → said ≡ refused 4 0
+      pub no-room : room < info → said ≡ refused shortOutput 0
       no-room h = few-enough ∙ rw (lt-ltb room info h)
 
       module _ (d : info ≤ room) {rows : ℕ} (same : rows ≡ survivorsOf code info) where
         room-enough : said ≡ scratch-tested
         room-enough = few-enough ∙ rw (le-ltb room info d)
 
-        pub no-scratch : scratch < rows → said ≡ refused 5 0
+        pub no-scratch : scratch < rows → said ≡ refused shortScratch 0
         no-scratch h = room-enough ∙ rw (lt-ltb scratch (survivorsOf code info) (omega (arith, same, h)))
 
         module _
@@ -120,15 +121,15 @@ module _ (code rate info : ℕ) (readings : List Float) (room scratch : ℕ) whe
           found : bad ≡ firstBad finite (take (codedLengthOf code rate info) readings)
           found = of-bad ∙ ap (firstBad finite) (used-taken (codedLengthOf code rate info) used readings is)
 
-          pub bad-reading : bad < used → said ≡ refused 6 bad
+          pub bad-reading : bad < used → said ≡ refused badReading bad
           bad-reading h =
               scratch-enough
-              ∙ some-bad finite 6 (take (codedLengthOf code rate info) readings) _ bad found (omega (arith, counted))
+              ∙ some-bad finite badReading (take (codedLengthOf code rate info) readings) _ bad found (omega (arith, counted))
 
           pub good-readings : used ≤ bad → said ≡ accepted (score (codeOf code) (patternOf code rate) readings info)
           good-readings h =
               scratch-enough
-              ∙ none-bad finite 6 (take (codedLengthOf code rate info) readings) _ bad found (omega (arith, counted))
+              ∙ none-bad finite badReading (take (codedLengthOf code rate info) readings) _ bad found (omega (arith, counted))
 
   -- ---- what is accepted
 
@@ -136,9 +137,10 @@ module _ (code rate info : ℕ) (readings : List Float) (room scratch : ℕ) whe
   unfolding decodeSaid
   accepted-score s e =
       let few : room-tested ≡ accepted s = checked-past code rate info room-tested s e in
-      let fits : scratch-tested ≡ accepted s = accepted-past (ltb room info) 4 scratch-tested s few in
-      let rows-fit : readings-tested ≡ accepted s = accepted-past (ltb scratch (survivorsOf code info)) 5 readings-tested s fits in
-      sym (accepted-told _ s (accepted-past-bad finite 6 (take (codedLengthOf code rate info) readings) _ s rows-fit))
+      let fits : scratch-tested ≡ accepted s = accepted-past (ltb room info) shortOutput scratch-tested s few in
+      let rows-fit : readings-tested ≡ accepted s =
+      accepted-past (ltb scratch (survivorsOf code info)) shortScratch readings-tested s fits in
+      sym (accepted-told _ s (accepted-past-bad finite badReading (take (codedLengthOf code rate info) readings) _ s rows-fit))
 
 -- ---- what a decoding leaves is what it promises
 

@@ -18,7 +18,7 @@ use Rattle.trellis.specs.declared.Selected.{Selected}
 use Rattle.trellis.specs.Choice.{k7, codeOf, keepOf}
 use Rattle.trellis.specs.Codeword.{stepsOf}
 use Rattle.trellis.specs.Keep.{codedLength}
-use Rattle.trellis.specs.Post.{Chooses, Halved}
+use Rattle.trellis.specs.Inner.{Chooses, Halved}
 use Rattle.trellis.proofs.Chosen.{code-width, code-sized, code-narrow, code-ends}
 use Rattle.trellis.proofs.States.{states-two-halves}
 use Rattle.readings.specs.Inner.{Finds, FindsAt, Usable, UsedOf}

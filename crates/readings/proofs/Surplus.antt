@@ -16,6 +16,7 @@ use Rattle.encoder.specs.Encode.{codedLengthOf}
 use Rattle.f32s.specs.Single.{zero32}
 use Rattle.refusal.specs.Answer.{Said, refused, refuseWhen}
 use Rattle.refusal.specs.Limits.{most}
+use Rattle.refusal.specs.Numbers.{unknownCode, unknownRate, tooMany}
 use Rattle.refusal.specs.Lent.{leaves, Lent}
 use Rattle.trellis.specs.Choice.{knownCode, codeOf, knownRate, patternOf}
 use Rattle.trellis.specs.Codeword.{stepsOf}
@@ -29,7 +30,9 @@ use Rattle.readings.proofs.Answers.{length-few}
 -- ---- by the numbers of the code and the rate
 
 -- a call that is refused with 3 at the latest leaves nothing new, whether or not its code and rate are known
-refused-leaves : (a b : Bool) (new old : List ℕ) → leaves {A = Float} (refuseWhen a 1 (refuseWhen b 2 (refused 3 0))) new old ≡ old
+refused-leaves :
+    (a b : Bool) (new old : List ℕ) →
+    leaves {A = Float} (refuseWhen a unknownCode (refuseWhen b unknownRate (refused tooMany 0))) new old ≡ old
 refused-leaves true b new old = refl
 refused-leaves false true new old = refl
 refused-leaves false false new old = refl

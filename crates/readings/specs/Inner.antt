@@ -13,7 +13,7 @@ use Rattle.trellis.specs.declared.KeepPattern.{KeepPattern}
 use Rattle.trellis.specs.Choice.{k7, codeOf, patternOf}
 use Rattle.trellis.specs.Codeword.{stepsOf}
 use Rattle.trellis.specs.Keep.{Keep}
-use Rattle.trellis.specs.Post.{Rows}
+use Rattle.trellis.specs.Inner.{Rows}
 use Rattle.readings.specs.Sums.{soft}
 
 -- ---- one step, all steps, the decoding: a decoder's in f32

@@ -10,6 +10,7 @@ use Rattle.f32s.specs.Single.{finite}
 use Rattle.refusal.specs.Answer.{Said, accepted, refuseWhen}
 use Rattle.refusal.specs.First.{firstBad, refuseAtBad}
 use Rattle.refusal.specs.Limits.{most}
+use Rattle.refusal.specs.Numbers.{shortOutput, shortScratch, badReading}
 use Rattle.trellis.specs.Choice.{k7, codeOf, patternOf}
 use Rattle.trellis.specs.Codeword.{stepsOf}
 use Rattle.readings.specs.Decode.{score}
@@ -22,16 +23,16 @@ mostReadings = 2 * stepsOf k7 most
 abbrev pub survivorsOf : (code info : ℕ) → ℕ
 survivorsOf code info = stepsOf (codeOf code) info * 2 ^ codeOf code .width
 
--- refusal 6 at the first reading that is NaN or infinite
+-- refused at the first reading that is NaN or infinite
 abbrev pub examined : {A : Type 0} → List Float → Said A → Said A
-examined used rest = refuseAtBad 6 finite used rest
+examined used rest = refuseAtBad badReading finite used rest
 
 -- surplus readings are neither used nor examined
 unfoldable pub decodeSaid : (code rate info : ℕ) → List Float → (room scratch : ℕ) → Said Float
 unfolding firstBad any.score
 decodeSaid code rate info readings room scratch =
     checked code rate info
-    (refuseWhen (ltb room info) 4
-    (refuseWhen (ltb scratch (survivorsOf code info)) 5
+    (refuseWhen (ltb room info) shortOutput
+    (refuseWhen (ltb scratch (survivorsOf code info)) shortScratch
     (examined (take (codedLengthOf code rate info) readings)
     (accepted (score (codeOf code) (patternOf code rate) readings info)))))

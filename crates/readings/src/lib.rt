@@ -6,7 +6,7 @@ ghost use Rattle.refusal.specs.Answer.{Scores, wordSaid, refused};
 ghost use Rattle.refusal.specs.Lent.{lent};
 ghost use Rattle.trellis.specs.Choice.{keepOf};
 ghost use Rattle.trellis.specs.Keep.{codedLength};
-ghost use Rattle.trellis.specs.Post.{Narrow};
+ghost use Rattle.trellis.specs.Inner.{Narrow};
 ghost use Rattle.readings.specs.Inner.{Finds, Usable, UsedOf};
 ghost use Rattle.readings.specs.Promise.{Decodes, DecodesBytes};
 
@@ -70,18 +70,18 @@ pub fn viterbi_decode_soft_with(
         return no_word(number, 0);
     }
     if out.len() < info {
-        return no_word(4, 0);
+        return no_word(refusal::SHORT_OUTPUT, 0);
     }
     let chosen = trellis::choose(code, rate);
     let half = half_of(chosen.code);
     let steps = info + chosen.code.width;
     if scratch.len() < steps * (2 * half) {
-        return no_word(5, 0);
+        return no_word(refusal::SHORT_SCRATCH, 0);
     }
     let used = used_of(chosen.keep, steps, readings.len());
     let bad = refusal::first_bad(&readings[..used]);
     if bad < used {
-        return no_word(6, bad as u32);
+        return no_word(refusal::BAD_READING, bad as u32);
     }
     let score = decode(chosen.code, half, chosen.keep, readings, info, out, scratch);
     Decoded::Word(score)

@@ -1,9 +1,10 @@
 -- What a call leaves in a buffer that was lent to it. Definitions only.
 use mathlib.Core.List.{List, _++_}
 use mathlib.Core.Path.{_≡_}
+use Prim.Native.Nat.{ℕ, _+_, _≤_}
 use denote.Ref.{RefT}
 use denote.Triple.Both.{Both}
-use lib.ListN.{length, drop}
+use lib.ListN.{length, take, drop}
 use Rattle.refusal.specs.Answer.{Said, accepted, refused}
 
 -- `new` written over the front of `old`, which keeps what lies beyond
@@ -22,6 +23,19 @@ pub record Lent (B : Type 0) : Type 0 where
 
 abbrev pub lent : {B : Type 0} → Both (RefT (List B)) (RefT (List B)) → Lent B
 lent out = record { given = out .entry .now; left = out .exit .now }
+
+-- ---- pieces, one behind the other
+
+-- room for a piece at the place `at`
+abbrev pub RoomFor : {B : Type 0} → (piece : List B) → (at : ℕ) → (out : List B) → Type 0
+RoomFor piece at out = at + length piece ≤ length out
+
+-- a call that puts a piece there, and answers the place behind it
+pub record PutsAt {B : Type 0} (piece : List B) (at next : ℕ) (out : Lent B) : Type 0 where
+  pub place : next ≡ at + length piece
+  pub output : out .left ≡ over (take at (out .given) ++ piece) (out .given)
+
+-- ---- promises
 
 -- The promise of a call that is lent one buffer: its answer says `said`, and it leaves in the buffer what that says.
 pub record Writes

@@ -9,8 +9,40 @@ ghost use Rattle.f32s.specs.Single.{finite, within};
 // The most info bits or symbols that one call may bring.
 pub const MOST: usize = 4096;
 
-// A refusal: document 01's number, and the index of the first bad value where the number is 6 or 7,
-// else 0.
+// ---- the refusals' numbers, one row each of document 01's table
+
+// The code number is no code's.
+pub const UNKNOWN_CODE: u8 = 1;
+
+// The rate number is no rate's.
+pub const UNKNOWN_RATE: u8 = 2;
+
+// One call brings more info bits or symbols than its limit.
+pub const TOO_MANY: u8 = 3;
+
+// The output is shorter than needed.
+pub const SHORT_OUTPUT: u8 = 4;
+
+// The scratch is shorter than needed.
+pub const SHORT_SCRATCH: u8 = 5;
+
+// A used reading is NaN or infinite.
+pub const BAD_READING: u8 = 6;
+
+// A used symbol component is NaN or beyond ±1,024.
+pub const BAD_COMPONENT: u8 = 7;
+
+// The Varicode reader is given a bit above 1.
+pub const BAD_BIT: u8 = 8;
+
+// The call's bits or character don't all fit in the queue.
+pub const QUEUE_FULL: u8 = 9;
+
+// The program's input is too short or too long, or not 4 + 4k bytes.
+pub const BAD_INPUT: u8 = 10;
+
+// A refusal: one of these numbers, and the index of the first bad value where it is BAD_READING or
+// BAD_COMPONENT, else 0.
 pub struct Refusal {
     pub number: u8,
     pub place: u32,

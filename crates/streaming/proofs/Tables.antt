@@ -7,7 +7,7 @@ use lib.Count.{ones}
 use lib.Dec.{lit<, lit≤}
 use lib.ListN.{getD, replicate}
 use Rattle.trellis.specs.Choice.{k5, codeOf}
-use Rattle.trellis.specs.Post.{Crossed}
+use Rattle.trellis.specs.Inner.{Crossed}
 use Rattle.trellis.specs.State.{window, parityOf}
 use Rattle.trellis.proofs.Chosen.{code-ends}
 

@@ -4,7 +4,7 @@ use Prim.Native.Nat.{ℕ}
 use lib.Dec.{lit≤}
 use Rattle.trellis.specs.declared.ConvCode.{ConvCode}
 use Rattle.trellis.specs.Choice.{k5, codeOf}
-use Rattle.trellis.specs.Post.{Halved}
+use Rattle.trellis.specs.Inner.{Halved}
 use Rattle.trellis.proofs.Chosen.{code-narrow, code-ends}
 use Rattle.symbols.specs.Inner.{half}
 

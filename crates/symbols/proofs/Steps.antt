@@ -13,7 +13,7 @@ use Rattle.best_path.proofs.Rows.{StateRows, survivor-rows, length-rows, rows-s
 use Rattle.best_path.proofs.Survivors.{length-mets}
 use Rattle.f32s.specs.Single.{zero32}
 use Rattle.trellis.specs.declared.ConvCode.{ConvCode}
-use Rattle.trellis.specs.Post.{Halved, Crossed}
+use Rattle.trellis.specs.Inner.{Halved, Crossed}
 use Rattle.trellis.proofs.States.{states-two-halves}
 use Rattle.branches.specs.Smallest.{mark, smallest}
 use Rattle.symbols.specs.Costs.{costs, started}

@@ -10,7 +10,7 @@ use Rattle.best_path.specs.Step.{Cell, step}
 use Rattle.refusal.specs.Lent.{Lent}
 use Rattle.refusal.specs.Limits.{most}
 use Rattle.trellis.specs.declared.ConvCode.{ConvCode}
-use Rattle.trellis.specs.Post.{Halved, Crossed}
+use Rattle.trellis.specs.Inner.{Halved, Crossed}
 use Rattle.branches.specs.Smallest.{smallest}
 use Rattle.symbols.specs.Costs.{cost, costs, phasorOf}
 use Rattle.symbols.specs.Decode.{firstLeast, mets, word, filledRows}

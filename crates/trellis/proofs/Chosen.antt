@@ -17,7 +17,7 @@ use Rattle.trellis.specs.declared.Selected.{Selected}
 use Rattle.trellis.specs.Keep.{Keep, Pattern, period, onesOf, codedLength}
 use Rattle.trellis.specs.Choice.{k5, k7, half, usual, Coding, codings, codes, codingOf, codeOf, patternIn, patternOf, ratesOf}
 use Rattle.trellis.specs.Choice.{heldOf, keepOf}
-use Rattle.trellis.specs.Post.{Narrow, Ends, Rows, Chooses}
+use Rattle.trellis.specs.Inner.{Narrow, Ends, Rows, Chooses}
 use Rattle.trellis.proofs.Columns.{rows-pattern}
 
 -- ---- a test that every entry of a list passes

@@ -1,5 +1,5 @@
--- A tap word's end bits: under one that is set, the window's bit turns the coded bit. So the two branches out of a state send opposite pairs,
--- and so do the two into a state. Over any width and tap word. Assumes nothing.
+-- A tap word's end bits: under one that is set, the window's bit turns the coded bit. So the two branches out of a state send
+-- opposite pairs, and so do the two into a state. Over any width and tap word. Assumes nothing.
 use mathlib.Core.Path.{_≡_, refl, sym, ap, ap₂, _∙_}
 use Prim.Native.Nat.{ℕ, zero, suc, _+_, _-_, _*_, _/_, _%_, _^_, _≤_, _<_}
 use native.Mathlib.Nat.{add-comm, mul-comm, mul-assoc, mod-lt, lt-of-le-of-lt}
@@ -10,7 +10,7 @@ use lib.Dec.{lit<}
 use lib.Pow.{pow-pos, split, high}
 use Rattle.trellis.specs.declared.ConvCode.{ConvCode}
 use Rattle.trellis.specs.State.{window, parityOf}
-use Rattle.trellis.specs.Post.{Ends}
+use Rattle.trellis.specs.Inner.{Ends}
 use Rattle.trellis.proofs.States.{states-two-halves}
 
 -- the taps over the k lowest bits of a window, and those over the rest, are counted apart

@@ -13,7 +13,8 @@ use lib.Arith.{digits-div, digits-mod}
 use lib.Dec.{eqb}
 use lib.ListN.{length, getD, take, length-append}
 use lib.Seq.{take-all, take-nil}
-use Rattle.trellis.specs.Keep.{Keep, Pattern, period, keepsBy, keeps0, keeps1, onlyIf, keptOf, keptThrough, keptPlaces, onesOf, codedLength}
+use Rattle.trellis.specs.Keep.{Keep, Pattern, period, keepsBy, keeps0, keeps1, onlyIf}
+use Rattle.trellis.specs.Keep.{keptOf, keptThrough, keptPlaces, onesOf, codedLength}
 
 -- ---- one row
 

@@ -1,4 +1,5 @@
--- What is sent, for any code and keep pattern: how many bits, from which inputs, and by the state in place of the register. Assumes nothing.
+-- What is sent, for any code and keep pattern: how many bits, from which inputs, and by the state in place of the register.
+-- Assumes nothing.
 use mathlib.Core.List.{List, [], _∷_, _++_, map}
 use mathlib.Core.Path.{_≡_, refl, sym, ap, ap₂, subst, _∙_}
 use Prim.Native.Nat.{ℕ, zero, suc, _+_, _*_, _%_, _^_, _<_}
@@ -23,7 +24,9 @@ pub length-sent : (code : ConvCode) (p : Keep) → Pattern p → (inputs : List 
 unfolding sentBy
 length-sent code p good inputs t = length-kept p good _ _ t
 
-pub length-codeword : (code : ConvCode) (p : Keep) → Pattern p → (info : List ℕ) → length (codeword code p info) ≡ codedLength p (stepsOf code (length info))
+pub length-codeword :
+    (code : ConvCode) (p : Keep) → Pattern p → (info : List ℕ) →
+    length (codeword code p info) ≡ codedLength p (stepsOf code (length info))
 unfolding codeword
 length-codeword code p good info = length-sent code p good (zeroTailed code info) (stepsOf code (length info))
 
@@ -69,7 +72,9 @@ module _ (xs ys : List ℕ) (same : (t : ℕ) → getD xs t 0 ≡ getD ys t 0) w
   sent-same code p (suc t) = rw (sent-same code p t, same t, register-same (code .width) t)
 
 -- the zero tail needs no list of its own
-pub codeword-sent : (code : ConvCode) (p : Keep) (info : List ℕ) → codeword code p info ≡ sentBy code p (lowestBits info) (stepsOf code (length info))
+pub codeword-sent :
+    (code : ConvCode) (p : Keep) (info : List ℕ) →
+    codeword code p info ≡ sentBy code p (lowestBits info) (stepsOf code (length info))
 unfolding codeword zeroTailed
 codeword-sent code p info = sent-same _ _ (getD-tail (lowestBits info) (code .width)) code p (stepsOf code (length info))
 
@@ -83,7 +88,8 @@ module _ (code : ConvCode) (some : 0 < code .width) (inputs : List ℕ) (are : I
   unfolding windowAt value
   coded-state taps =
       coded-parity taps (more (are t) (register-bits code inputs are t))
-      ∙ ap₂ (λ (n v : ℕ). parityOf taps (getD inputs t 0 * 2 ^ n + v)) (length-register code inputs t) (register-state code inputs some are t)
+      ∙ ap₂ (λ (n v : ℕ). parityOf taps (getD inputs t 0 * 2 ^ n + v))
+      (length-register code inputs t) (register-state code inputs some are t)
 
   pub coded0-state : coded0 code inputs t ≡ parityOf (code .g0) windowNow
   unfolding coded0

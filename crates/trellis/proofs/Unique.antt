@@ -1,5 +1,5 @@
--- Of each function, any two outcomes that its contract allows are equal. `Post` is the contract: of what the call is given, what it returns, and what it
--- leaves in each argument. Assumes nothing.
+-- Of each function, any two outcomes that its contract allows are equal. `Post` is the contract: of what the call is given,
+-- what it returns, and what it leaves in each argument. Assumes nothing.
 use mathlib.Core.List.{List}
 use mathlib.Core.Path.{_≡_, ap₂, sym, _∙_}
 use Prim.Native.Nat.{ℕ, _<_}
@@ -12,7 +12,7 @@ use Rattle.trellis.specs.declared.KeepPattern.{KeepPattern}
 use Rattle.trellis.specs.declared.Pair.{Pair}
 use Rattle.trellis.specs.declared.Planes.{Planes}
 use Rattle.trellis.specs.declared.Selected.{Selected}
-use Rattle.trellis.specs.Post.{Blank}
+use Rattle.trellis.specs.Inner.{Blank}
 use Rattle.trellis.proofs.Even.{Filled}
 use Rattle.trellis.proofs.conv_code.Reads as conv-code
 use Rattle.trellis.proofs.choose.Reads as choose
@@ -46,7 +46,11 @@ same-table :
 same-table n value s t f g blank blank' = ext-getD 0 s t (blank .sized ∙ sym (blank' .sized)) at
   where
     at : (k : ℕ) → k < length s → getD s k 0 ≡ getD t k 0
-    at k h = elim (decLt k n) [ yes low ↦ f k low ∙ sym (g k low) | no high ↦ blank .rest k (omega arith) ∙ sym (blank' .rest k (omega arith)) ]
+    at k h =
+        elim (decLt k n) [
+          | yes low ↦ f k low ∙ sym (g k low)
+          | no high ↦ blank .rest k (omega arith) ∙ sym (blank' .rest k (omega arith))
+        ]
 
 abbrev planes : List ℕ → List ℕ → Planes
 planes c0 c1 = record { c0 = c0; c1 = c1 }
@@ -54,7 +58,9 @@ planes c0 c1 = record { c0 = c0; c1 = c1 }
 pub sent-by-even-determined :
     (κs : _) (given : _) (r r' : Planes) (left left' : _) → sent-by-even.Post κs given r left → sent-by-even.Post κs given r' left' → r ≡ r'
 sent-by-even-determined κs given r r' left left' p q =
-    ap₂ planes (same-table _ _ _ _ (p .0 .first) (q .0 .first) (p .1 .0) (q .1 .0)) (same-table _ _ _ _ (p .0 .second) (q .0 .second) (p .1 .1) (q .1 .1))
+    ap₂ planes
+    (same-table _ _ _ _ (p .crossed .first) (q .crossed .first) (p .rest0) (q .rest0))
+    (same-table _ _ _ _ (p .crossed .second) (q .crossed .second) (p .rest1) (q .rest1))
 
 pub next-state-determined :
     (κs : _) (given : _) (r r' : ℕ) (left left' : _) → next-state.Post κs given r left → next-state.Post κs given r' left' → r ≡ r'

@@ -1,5 +1,5 @@
--- Keep patterns: two equally long rows, G0's and G1's, of at least one column. Step t uses column t mod period; a 1 keeps a coded bit, a 0
--- deletes it. Definitions only.
+-- Keep patterns: two equally long rows, G0's and G1's, of at least one column. Step t uses column t mod period; a 1
+-- keeps a coded bit, a 0 deletes it. Definitions only.
 use mathlib.Core.Bool.{Bool, true, false, cond}
 use mathlib.Core.List.{List, [], _∷_, _++_}
 use mathlib.Core.Path.{_≡_}

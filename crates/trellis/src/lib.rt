@@ -1,12 +1,11 @@
 // One step of the shift register for any code, which coded bits a keep pattern keeps, and the coded length.
 ghost use mathlib.Core.Path.{_≡_};
-ghost use Prim.Native.Nat.{_+_, _%_, _<_, _≤_, _^_};
-ghost use lib.ListN.{take};
+ghost use Prim.Native.Nat.{_+_, _%_, _<_, _≤_};
 ghost use Rattle.trellis.specs.Choice.{patternIn, codeOf, heldOf, keepOf};
 ghost use Rattle.trellis.specs.Choice as choice;
-ghost use Rattle.trellis.specs.Keep.{onesOf, codedLength};
+ghost use Rattle.trellis.specs.Keep.{codedLength};
 ghost use Rattle.trellis.specs.State.{window, parityOf, nextState};
-ghost use Rattle.trellis.specs.Post.{Chooses, Taken, Branched, Rows, Halved, Crossed, Blank};
+ghost use Rattle.trellis.specs.Inner.{Chooses, Branch, Branched, Halved, SendsEven, OnesIn, Measurable};
 
 // A code: the register's width K - 1, and the tap words over the window of K bits, whose top bit
 // is the input.
@@ -133,7 +132,7 @@ fn parity(w: u32, taps: u32) -> u8
 
 // The input bit above the register.
 fn window_of(code: ConvCode, s: u32, b: u32) -> u32
-    requires { ⌜ Taken code s b ⌝ }
+    requires { ⌜ Branch code s b ⌝ }
     ensures { λ r. ⌜ r ≡ window code s b ⌝ }
 {
     (b << code.width) | s
@@ -147,7 +146,7 @@ pub struct Pair {
 
 // The coded bits of the state s on the input b.
 pub fn branch_bits(code: ConvCode, s: u32, b: u32) -> Pair
-    requires { ⌜ Taken code s b ⌝ }
+    requires { ⌜ Branch code s b ⌝ }
     ensures { λ r. ⌜ Branched code s b r ⌝ }
 {
     let w = window_of(code, s, b);
@@ -167,8 +166,7 @@ pub struct Planes {
 
 pub fn sent_by_even(code: ConvCode, half: usize) -> Planes
     requires { ⌜ Halved code half ⌝ }
-    ensures crossed { λ r. ⌜ Crossed code half (r .c0) (r .c1) ⌝ }
-    ensures rest { λ r. ⌜ Blank half (r .c0) × Blank half (r .c1) ⌝ }
+    ensures { λ r. ⌜ SendsEven code half r ⌝ }
 {
     let mut c0 = [0; 32];
     let mut c1 = [0; 32];
@@ -183,7 +181,7 @@ pub fn sent_by_even(code: ConvCode, half: usize) -> Planes
 
 // The state after s on the input b: the window without its lowest bit.
 pub fn next_state(code: ConvCode, s: u32, b: u32) -> u32
-    requires { ⌜ Taken code s b ⌝ }
+    requires { ⌜ Branch code s b ⌝ }
     ensures { λ r. ⌜ r ≡ nextState code s b ⌝ }
 {
     window_of(code, s, b) / 2
@@ -202,7 +200,7 @@ pub fn next_column(column: usize, period: usize) -> usize
 // The ones in the first n columns of a row.
 fn ones_in(row: &[u8; 7], n: usize) -> usize
     requires { ⌜ n ≤ 7 ⌝ }
-    ensures { λ r. ⌜ (r ≡ onesOf (take n (now (row .entry)))) × (r ≤ n) ⌝ }
+    ensures { λ r. ⌜ OnesIn (now (row .entry)) n r ⌝ }
 {
     let mut count = 0;
     for i in 0..n {
@@ -215,8 +213,7 @@ fn ones_in(row: &[u8; 7], n: usize) -> usize
 
 // Whole periods times the ones in both rows, plus the ones in the columns begun.
 pub fn coded_len(keep: KeepPattern, steps: usize) -> usize
-    requires { ⌜ Rows keep ⌝ }
-    requires { ⌜ steps < 2 ^ 32 ⌝ }
+    requires { ⌜ Measurable keep steps ⌝ }
     ensures { λ r. ⌜ r ≡ codedLength (keepOf keep) steps ⌝ }
 {
     let period = keep.period;

@@ -3,7 +3,7 @@ use Prim.Native.Nat.{_-_}
 use native.Mathlib.Omega.{arith}
 use borrow.Author.Needs.{needs}
 use Rattle.encoder.proofs.Turn.{Encoded, encoded-starts, encoded-goes-on, encoded-ends}
-use Rattle.encoder.proofs.Turn.{column-below, taken-now, first-fits, second-fits}
+use Rattle.encoder.proofs.Turn.{column-below, branch-now, first-fits, second-fits}
 use Rattle.encoder.proofs.encode.Statement.{statement}
 use Rattle.encoder.proofs.encode.Tie as tie
 
@@ -39,7 +39,7 @@ loop-holds c = search encoded-starts
 branch-bits-requires : tie.Need-branch-bits-requires Inv-loop μ-loop
 branch-bits-requires c κs =
     let head : Head = search in
-    taken-now (head .loop .inv) (c .input-at .ensures)
+    branch-now (head .loop .inv) (c .input-at .ensures)
 
 array-read-put : tie.Need-array-read-put Inv-loop μ-loop
 array-read-put c =
@@ -71,7 +71,7 @@ next-state-requires : tie.Need-next-state-requires Inv-loop μ-loop
 next-state-requires c κs =
     let input : Input = search in
     let head : Head = search in
-    taken-now (head .loop .inv) (input .input-at .ensures)
+    branch-now (head .loop .inv) (input .input-at .ensures)
 
 next-column-requires : tie.Need-next-column-requires Inv-loop μ-loop
 next-column-requires c κs =

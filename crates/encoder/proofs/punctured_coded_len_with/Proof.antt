@@ -27,7 +27,10 @@ coded-len-requires c κs =
     let passed : tie.Else1 = search in
     let decided : tie.After-refused-choice = search in
     let few = choice-few (decided .refused-choice .ensures) (passed .if1 .left) in
-    (chosen-rows (chosen .choose .ensures), omega (arith, chosen-narrow (chosen .choose .ensures) .narrow, few))
+    record {
+      rows = chosen-rows (chosen .choose .ensures);
+      few = omega (arith, chosen-narrow (chosen .choose .ensures) .narrow, few);
+    }
 
 returns-2 : tie.Need-returns-2
 returns-2 c =

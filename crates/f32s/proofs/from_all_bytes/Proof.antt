@@ -77,10 +77,13 @@ returns c =
     let l = c .before .loop in
     let start = c .before .before .before .before .before .args in
     let lesser = c .before .before .lesser in
-    let last : l .i ≡ lesser .result = omega arith in (
-      length-new (start .bytes .now) (start .values .now) (lesser .result) (lesser .ensures),
-      all-copied (start .bytes .now) (start .values .now) (lesser .result) (lesser .ensures) (l .values) (l .inv .2 ∙ ap (copied (start .bytes .now) (start .values .now)) last),
-    )
+    let last : l .i ≡ lesser .result = omega arith in
+    record {
+      counted = length-new (start .bytes .now) (start .values .now) (lesser .result) (lesser .ensures);
+      front =
+          all-copied (start .bytes .now) (start .values .now) (lesser .result) (lesser .ensures) (l .values)
+          (l .inv .2 ∙ ap (copied (start .bytes .now) (start .values .now)) last);
+    }
 
 pub from-all-bytes-spec : {M : Type 1} → statement M
 from-all-bytes-spec = tie.close (tie.spec Inv-loop μ-loop lesser-requires loop-holds mul-at shared-slice-read-from-bytes add-from-bytes shared-slice-read-from-bytes-2 add-from-bytes-2 shared-slice-read-from-bytes-3 add-from-bytes-3 shared-slice-read-from-bytes-4 from-bytes-requires mul-values slice-write-values add-i loop-less loop-again same-length returns)

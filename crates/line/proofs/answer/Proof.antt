@@ -8,6 +8,7 @@ use borrow.Author.Needs.{needs}
 use borrow.Author.Tests.{not-true, not-false}
 use lib.ListN.{length, take, drop}
 use lib.Seq.{length-take-le}
+use Rattle.refusal.specs.Numbers.{badInput}
 use Rattle.line.specs.Line.{mostInfo, shaped, infoIn}
 use Rattle.line.proofs.Decoding.{shaped-long, unshaped-said, output-refused}
 use Rattle.line.proofs.Decoding.{Decided, Called, choice-output, refused-output, info-few, word-output}
@@ -20,7 +21,7 @@ returns c =
     let tested : tie.After-is-shaped = search in
     let start : tie.Start = search in
     let unshaped = sym (tested .is-shaped .ensures) ∙ not-true _ (c .before .if1 .taken) in
-    rw (output-refused (start .args .input .now) 10 0 (unshaped-said (start .args .input .now) unshaped)) (c .refused-line .ensures)
+    rw (output-refused (start .args .input .now) badInput 0 (unshaped-said (start .args .input .now) unshaped)) (c .refused-line .ensures)
 
 -- the input is shaped
 module _ (c : tie.Else1) where
@@ -125,7 +126,7 @@ returns-3 c =
     let told : tie.After-enum-told = search in
     let called : tie.After-viterbi-decode-bytes = search in
     let (refusal, is-refused) = told .enum-told .given in
-    rw (refused-output (call called) is-refused _ _ (c .before .refusal-in .ensures)) (c .refused-line3 .ensures)
+    rw (refused-output (call called) is-refused (c .before .refusal-in .ensures)) (c .refused-line3 .ensures)
 
 -- and found a word
 module _ (c : tie.After-known-told) where

@@ -6,7 +6,7 @@ use Rattle.readings.proofs.used_of.Statement.{statement}
 use Rattle.readings.proofs.used_of.Tie as tie
 
 coded-len-requires : tie.Need-coded-len-requires
-coded-len-requires c κs = (c .pre .pattern, omega arith)
+coded-len-requires c κs = record { rows = c .pre .pattern; few = omega arith }
 
 returns : tie.Need-returns
 returns c =

@@ -11,23 +11,24 @@ array-share-prefix-values : tie.Need-array-share-prefix-values
 array-share-prefix-values c =
     let turned : tie.After-from-all-bytes = search in
     let start : tie.Start = search in
-    let (counted, front) = turned .from-all-bytes .ensures in
-    front-within (allOfBytes (start .args .bytes .now)) _ _ counted front
+    let filled = turned .from-all-bytes .ensures in
+    front-within (allOfBytes (start .args .bytes .now)) _ _ (filled .counted) (filled .front)
 
 slice-aggregate-viterbi-decode-soft-with : tie.Need-slice-aggregate-viterbi-decode-soft-with
 slice-aggregate-viterbi-decode-soft-with c =
     let turned : tie.After-from-all-bytes = search in
     let start : tie.Start = search in
-    let (counted, front) = turned .from-all-bytes .ensures in
-    sym (length-take-le _ _ (front-within (allOfBytes (start .args .bytes .now)) _ _ counted front))
+    let filled = turned .from-all-bytes .ensures in
+    sym (length-take-le _ _ (front-within (allOfBytes (start .args .bytes .now)) _ _ (filled .counted) (filled .front)))
 
 returns : tie.Need-returns
 returns c =
     let decoded : tie.After-viterbi-decode-soft-with = search in
     let turned : tie.After-from-all-bytes = search in
     let start : tie.Start = search in
-    let (counted, front) = turned .from-all-bytes .ensures in
-    front-decodes (allOfBytes (start .args .bytes .now)) _ _ counted front (start .args .code) (start .args .rate) (start .args .info)
+    let filled = turned .from-all-bytes .ensures in
+    front-decodes (allOfBytes (start .args .bytes .now)) _ _ (filled .counted) (filled .front)
+    (start .args .code) (start .args .rate) (start .args .info)
     (decoded .viterbi-decode-soft-with .ensures)
 
 pub viterbi-decode-bytes-spec : {M : Type 1} → statement M

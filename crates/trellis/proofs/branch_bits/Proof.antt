@@ -5,19 +5,10 @@ use Rattle.trellis.specs.State.{parityOf}
 use Rattle.trellis.proofs.branch_bits.Statement.{statement}
 use Rattle.trellis.proofs.branch_bits.Tie as tie
 
-window-of-requires : tie.Need-window-of-requires
-window-of-requires c κs = search needs
-
-parity-requires : tie.Need-parity-requires
-parity-requires c κs = search needs
-
-parity-requires-2 : tie.Need-parity-requires-2
-parity-requires-2 c κs = search needs
-
 returns : tie.Need-returns
 returns c =
     let same = c .before .before .window-of .ensures in
     record { first = c .before .parity .ensures ∙ ap (parityOf _) same; second = c .parity2 .ensures ∙ ap (parityOf _) same }
 
 pub branch-bits-spec : {M : Type 1} → statement M
-branch-bits-spec = tie.close (tie.spec window-of-requires parity-requires parity-requires-2 returns)
+branch-bits-spec = tie.close (tie.spec (search needs) (search needs) (search needs) returns)

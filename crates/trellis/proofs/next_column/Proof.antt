@@ -7,9 +7,6 @@ use borrow.Author.Needs.{needs}
 use Rattle.trellis.proofs.next_column.Statement.{statement}
 use Rattle.trellis.proofs.next_column.Tie as tie
 
-add-next : tie.Need-add-next
-add-next c = search needs
-
 returns : tie.Need-returns
 returns c = rw (c .if1 .taken) (sym (mod-self (c .before .args .period)))
 
@@ -17,4 +14,4 @@ returns-2 : tie.Need-returns-2
 returns-2 c = sym (mod-eq-of-lt (omega arith))
 
 pub next-column-spec : {M : Type 1} → statement M
-next-column-spec = tie.close (tie.spec add-next returns returns-2)
+next-column-spec = tie.close (tie.spec (search needs) returns returns-2)

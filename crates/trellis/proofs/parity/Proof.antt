@@ -5,12 +5,9 @@ use Rattle.trellis.specs.State.{parityOf}
 use Rattle.trellis.proofs.parity.Statement.{statement}
 use Rattle.trellis.proofs.parity.Tie as tie
 
-cast-result : tie.Need-cast-result
-cast-result c = search needs
-
 returns : tie.Need-returns
 unfolding parityOf
 returns c = search needs
 
 pub parity-spec : {M : Type 1} → statement M
-parity-spec = tie.close (tie.spec cast-result returns)
+parity-spec = tie.close (tie.spec (search needs) returns)

@@ -8,16 +8,11 @@ use lib.Pow.{shl-exact}
 use Rattle.trellis.proofs.window_of.Statement.{statement}
 use Rattle.trellis.proofs.window_of.Tie as tie
 
-cast-result : tie.Need-cast-result
-cast-result c = search needs
-
-shl-result : tie.Need-shl-result
-shl-result c = search needs
-
 returns : tie.Need-returns
 returns c =
     let a = c .before .args in
-    ap (λ (n : ℕ). bitOr n (a .s)) (shl-exact 1 (a .code .width) 32 (search needs) (omega arith)) ∙ or-shifted (a .b) (a .code .width) (a .s) (search needs)
+    ap (λ (n : ℕ). bitOr n (a .s)) (shl-exact 1 (a .code .width) 32 (search needs) (omega arith))
+    ∙ or-shifted (a .b) (a .code .width) (a .s) (search needs)
 
 pub window-of-spec : {M : Type 1} → statement M
-window-of-spec = tie.close (tie.spec cast-result shl-result returns)
+window-of-spec = tie.close (tie.spec (search needs) (search needs) returns)

@@ -49,7 +49,7 @@ loop-holds : tie.Need-loop-holds Inv-loop μ-loop
 loop-holds c =
     let coded : tie.After-sent-by-even Inv-loop μ-loop = search in
     let start : tie.Start Inv-loop μ-loop = search in
-    let (crossed, rest) = coded .sent-by-even .ensures in
+    let crossed = coded .sent-by-even .ensures .crossed in
     forwarded-starts (start .pre) crossed
 
 array-read-read : tie.Need-array-read-read Inv-loop μ-loop
