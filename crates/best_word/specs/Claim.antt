@@ -70,7 +70,8 @@ module _ (code : ConvCode) (p : Keep) (info : ℕ) where
 pub record ClaimOfCall (code rate info : ℕ) (readings : List Float) (r : Decoded) (out : List ℕ) : Type 0 where
   -- accepted, the front of the output is a word, and the answer a score, of which the claim holds
   pub accepts :
-      (zs : List ℤ) → Exact (codeOf code) (patternOf code rate) info readings zs → (s : Float) → wordSaid r ≡ accepted s →
+      (zs : List ℤ) → Exact (codeOf code) (patternOf code rate) info readings zs → (s : Float) →
+      wordSaid r ≡ accepted s →
       Claim (codeOf code) (patternOf code rate) info zs (take info out) s
   -- and it is not for a reading that a call is refused
   pub never-6 :

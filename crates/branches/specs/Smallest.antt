@@ -6,8 +6,8 @@ use Rattle.best_path.specs.Metric.{Metric}
 abbrev pub mark : Float
 mark = ofBits binary32 0x7eff_ffff
 
--- A state is reachable when its metric is below the mark, and skipped where it is not; only a strictly smaller candidate
--- replaces.
+-- A state is reachable when its metric is below the mark, and skipped where it is not; only a strictly smaller
+-- candidate replaces.
 abbrev pub smallest : Metric Float Float
 smallest =
     record {

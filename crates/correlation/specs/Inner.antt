@@ -31,7 +31,8 @@ pub record SteppableOf (code : ConvCode) (half : ℕ) (c0 c1 row : List ℕ) : T
   pub ready : Steppable code half c0 c1 row
   pub compiled : Compiled half
 
--- `step`, `step_of`: from the metrics `old` the new ones stand over the front of `next`, the survivors over that of `row`
+-- `step`, `step_of`: from the metrics `old` the new ones stand over the front of `next`, the survivors over that of
+-- `row`
 pub record Selects
     {A M : Type 0} (kind : Kind A M) (code : ConvCode) (old : ℕ → M) (a b : A) (next : Lent M) (row : Lent ℕ)
     : Type 0 where

@@ -6,9 +6,10 @@ use native.Mathlib.Numerals.{add-one}
 use native.Mathlib.Nat.{zero-add}
 use native.Mathlib.Omega.{arith}
 use lib.Ieee.{Float, nan}
-use lib.ListN.{length, getD, set, take, drop, length-take}
+use lib.ListN.{length, getD, set, take, drop, length-take, length-set}
 use lib.Seq.{getD-take, take-length, paste, paste-suc, paste-zero, length-paste}
 use Rattle.f32s.specs.Single.{ofBytes, allOfBytes}
+use Rattle.f32s.specs.Inner.{Fills}
 
 pub length-all : (bytes : List ℕ) → length (allOfBytes bytes) ≡ length bytes / 4
 unfolding allOfBytes
@@ -54,27 +55,52 @@ module _ (bytes : List ℕ) (old : List Float) where
   abbrev new : List Float
   new = take (length old) (allOfBytes bytes)
 
-  abbrev pub copied : ℕ → List Float
+  abbrev copied : ℕ → List Float
   copied i = paste old 0 new i
 
-  pub none-copied : old ≡ copied 0
-  none-copied = paste-zero old 0 new
+-- The invariant: after i turns of `count` the first i values stand at the front, and the rest is as it was.
+pub record Copied (bytes : List ℕ) (old : List Float) (count : ℕ) (values : List Float) (i : ℕ) : Type 0 where
+  pub turns : i ≤ count
+  pub size : length values ≡ length old
+  pub front : values ≡ copied bytes old i
 
-  module _ (count : ℕ) (counted : count ≡ min (length old) (length bytes / 4)) where
-    pub length-new : count ≡ length new
-    length-new = counted ∙ ap (min (length old)) (sym (length-all bytes)) ∙ sym (length-take (length old) (allOfBytes bytes))
+pub copied-starts : {bytes : List ℕ} {old : List Float} {count : ℕ} → Copied bytes old count old 0
+copied-starts {bytes} {old} = record { turns = omega arith; size = refl; front = paste-zero old 0 (new bytes old) }
 
-    module _ (i : ℕ) (values : List Float) (before : values ≡ copied i) where
-      pub one-copied : (x : Float) → i < count → x ≡ valueAt bytes (4 * i) → set values i x ≡ copied (i + 1)
-      one-copied x h e =
-          let value : x ≡ getD new i nan =
-          e ∙ value-at bytes i (omega (arith, counted)) ∙ sym (getD-take (length old) (allOfBytes bytes) i nan (omega (arith, counted))) in
-          ap₂ (λ (l : List Float) (y : Float). set l i y) before value
-          ∙ ap (λ (n : ℕ). set (copied i) n (getD new i nan)) (sym (zero-add i))
-          ∙ paste-suc old 0 new i nan (omega (arith, counted)) (omega (arith, length-new)) ∙ ap copied (sym (add-one i))
+length-new :
+    (bytes : List ℕ) (old : List Float) (count : ℕ) → count ≡ min (length old) (length bytes / 4) → count ≡ length (new bytes old)
+length-new bytes old count counted =
+    counted ∙ ap (min (length old)) (sym (length-all bytes)) ∙ sym (length-take (length old) (allOfBytes bytes))
 
-    pub all-copied : (values : List Float) → values ≡ copied count → values ≡ new ++ drop count old
-    all-copied values e =
-        e
-        ∙ ap₂ (λ (front : List Float) (n : ℕ). front ++ drop n old) (ap (λ (n : ℕ). take n new) length-new ∙ take-length new)
-        (zero-add count)
+module _
+    {bytes : List ℕ} {old : List Float} {count : ℕ} {values : List Float} {i : ℕ} (now : Copied bytes old count values i)
+    (counted : count ≡ min (length old) (length bytes / 4)) where
+  pub copied-goes-on :
+      i < count → {x : Float} → x ≡ valueAt bytes (4 * i) → {values' : List Float} → values' ≡ set values i x →
+      Copied bytes old count values' (i + 1)
+  copied-goes-on h {x} e {values'} f =
+      let value : x ≡ getD (new bytes old) i nan =
+      e ∙ value-at bytes i (omega (arith, counted)) ∙ sym (getD-take (length old) (allOfBytes bytes) i nan (omega (arith, counted))) in
+      record {
+        turns = omega arith;
+        size = rw f (simp length-set (now .size));
+        front =
+            f
+            ∙ ap₂ (λ (l : List Float) (y : Float). set l i y) (now .front) value
+            ∙ ap (λ (n : ℕ). set (copied bytes old i) n (getD (new bytes old) i nan)) (sym (zero-add i))
+            ∙ paste-suc old 0 (new bytes old) i nan (omega (arith, counted)) (omega (arith, length-new bytes old count counted))
+            ∙ ap (copied bytes old) (sym (add-one i));
+      }
+
+  pub copied-ends : count ≤ i → Fills bytes old values count
+  copied-ends past =
+      let last : i ≡ count = omega (arith, now .turns) in
+      let all = length-new bytes old count counted in
+      record {
+        counted = all;
+        front =
+            now .front
+            ∙ ap (copied bytes old) last
+            ∙ ap₂ (λ (front : List Float) (n : ℕ). front ++ drop n old)
+            (ap (λ (n : ℕ). take n (new bytes old)) all ∙ take-length (new bytes old)) (zero-add count);
+      }
