@@ -15,6 +15,7 @@ use Rattle.refusal.specs.Answer.{accepted, refused, Counts}
 use Rattle.refusal.specs.Lent.{over, Lent}
 use Rattle.refusal.specs.declared.Counted.{Counted}
 use Rattle.refusal.specs.declared.Counted.the-variants as counted
+use Rattle.refusal.specs.Numbers.{shortOutput}
 use Rattle.refusal.proofs.Filling.{Written, written-inside}
 use Rattle.refusal.proofs.Told.{refused-when, passed-when}
 use Rattle.refusal.proofs.Over.{over-kept, over-set, over-more, length-over, writes-refused, writes-accepted}
@@ -123,7 +124,7 @@ module _ {soft : List Float} {old : List ℕ} {i : ℕ} {d : StreamingViterbi} {
 -- ---- the answers
 
 module _ (soft : List Float) (room : ℕ) where
-  refused-said : room < length soft / 2 → streamSaid soft room ≡ refused 4 0
+  refused-said : room < length soft / 2 → streamSaid soft room ≡ refused shortOutput 0
   unfolding streamSaid
   refused-said h = sym (refused-when (ltb room (length soft / 2)) 4 _ (lt-ltb room (length soft / 2) h))
 
@@ -132,7 +133,7 @@ module _ (soft : List Float) (room : ℕ) where
   accepted-said h = sym (passed-when (ltb room (length soft / 2)) 4 _ (le-ltb room (length soft / 2) h))
 
 pub stream-refused :
-    (soft : List Float) {out : List ℕ} (answer : Counted) → Counts answer (refused 4 0) → length out < length soft / 2 →
+    (soft : List Float) {out : List ℕ} (answer : Counted) → Counts answer (refused shortOutput 0) → length out < length soft / 2 →
     Streams (Counts answer) soft (record { given = out; left = out })
 stream-refused soft {out} answer says h = writes-refused (refused-said soft (length out) h) says refl
 

@@ -6,6 +6,7 @@ use lib.Dec.{ltb}
 use lib.Ieee.{Float, nan}
 use lib.ListN.{length, getD}
 use Rattle.refusal.specs.Answer.{Said, accepted, refuseWhen}
+use Rattle.refusal.specs.Numbers.{shortOutput}
 use Rattle.streaming.specs.Decoder.{lag}
 use Rattle.streaming.specs.Life.{joinedBy}
 use Rattle.streaming.specs.Run.{Symbol, runGives}
@@ -25,4 +26,4 @@ module _ (soft : List Float) where
   -- how many bits came out; or refusal 4, where there is room for fewer than there are symbols
   unfoldable pub streamSaid : ℕ → Said ℕ
   unfolding streamGives
-  streamSaid room = refuseWhen (ltb room (length soft / 2)) 4 (accepted (length streamGives))
+  streamSaid room = refuseWhen (ltb room (length soft / 2)) shortOutput (accepted (length streamGives))

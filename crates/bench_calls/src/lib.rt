@@ -45,7 +45,7 @@ fn stream(soft: &[f32], out: &mut [u8]) -> Counted
 {
     let count = soft.len() / 2;
     if out.len() < count {
-        return refusal::no_count(4);
+        return refusal::no_count(refusal::SHORT_OUTPUT);
     }
     let mut d = StreamingViterbi::new();
     let mut written = 0;

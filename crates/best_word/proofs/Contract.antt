@@ -26,6 +26,7 @@ use Rattle.refusal.specs.Answer.{Said, accepted, refused, refuseWhen, Scores}
 use Rattle.refusal.specs.declared.Decoded.{Decoded}
 use Rattle.refusal.specs.Lent.{over, leaves, Lent}
 use Rattle.refusal.specs.Limits.{most}
+use Rattle.refusal.specs.Numbers.{badReading}
 use Rattle.refusal.proofs.FirstBad.{all-good, none-bad}
 use Rattle.trellis.specs.Choice.{knownCode, codeOf, knownRate, patternOf}
 use Rattle.trellis.specs.Codeword.{stepsOf}
@@ -64,11 +65,11 @@ module _ (code rate info : ℕ) (readings : List Float) (room scratch : ℕ) whe
   finite-used zs exact rest =
       let whole = exact .whole in
       let all = all-good finite nan used (λ i h. whole-finite (whole .each i (omega (arith, whole .sized)))) in
-      none-bad finite 6 used rest (length used) (sym all) (le-refl (length used))
+      none-bad finite badReading used rest (length used) (sym all) (le-refl (length used))
 
   -- so no test is left that refuses with 6
   none-6 :
-      (zs : List ℤ) → Exact (codeOf code) (patternOf code rate) info readings zs → (place : ℕ) → said ≡ refused 6 place → ⊥
+      (zs : List ℤ) → Exact (codeOf code) (patternOf code rate) info readings zs → (place : ℕ) → said ≡ refused badReading place → ⊥
   unfolding decodeSaid
   none-6 zs exact place e =
       let known-code = past-other (not (knownCode code)) 1 6 place _ (λ h. omega arith) e in

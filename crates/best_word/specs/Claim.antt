@@ -15,6 +15,7 @@ use Rattle.f32s.specs.Whole.{floatOf}
 use Rattle.readings.specs.Decode.{word}
 use Rattle.refusal.specs.Answer.{accepted, refused, wordSaid}
 use Rattle.refusal.specs.declared.Decoded.{Decoded}
+use Rattle.refusal.specs.Numbers.{badReading}
 use Rattle.trellis.specs.declared.ConvCode.{ConvCode}
 use Rattle.trellis.specs.Choice.{codeOf, patternOf}
 use Rattle.trellis.specs.Codeword.{stepsOf, zeroTailed, codeword}
@@ -76,4 +77,4 @@ pub record ClaimOfCall (code rate info : ℕ) (readings : List Float) (r : Decod
   -- and it is not for a reading that a call is refused
   pub never-6 :
       (zs : List ℤ) → Exact (codeOf code) (patternOf code rate) info readings zs →
-      (place : ℕ) → wordSaid r ≡ refused 6 place → ⊥
+      (place : ℕ) → wordSaid r ≡ refused badReading place → ⊥

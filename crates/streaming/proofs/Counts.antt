@@ -4,6 +4,7 @@ use Prim.Native.Nat.{ℕ}
 use lib.Dec.{ltb}
 use lib.ListN.{length}
 use Rattle.refusal.specs.Answer.{accepted}
+use Rattle.refusal.specs.Numbers.{shortOutput}
 use Rattle.refusal.proofs.Told.{accepted-past, accepted-told}
 use Rattle.trellis.specs.declared.ConvCode.{ConvCode}
 use Rattle.streaming.specs.Stream.{State}
@@ -15,4 +16,4 @@ pub flush-count :
     length (flushGives code lag st) ≡ n
 unfolding flushSaid
 flush-count code lag st room n e =
-    accepted-told _ n (accepted-past (ltb room lag) 4 (accepted (length (flushGives code lag st))) n e)
+    accepted-told _ n (accepted-past (ltb room lag) shortOutput (accepted (length (flushGives code lag st))) n e)

@@ -14,6 +14,7 @@ use Rattle.refusal.specs.declared.Counted.{Counted}
 use Rattle.refusal.specs.declared.Counted.the-variants as counted
 use Rattle.refusal.specs.Answer.{accepted, refused, Counts}
 use Rattle.refusal.specs.Lent.{Lent}
+use Rattle.refusal.specs.Numbers.{shortOutput}
 use Rattle.refusal.proofs.Filling.{Written, as-before, one-more, written-inside}
 use Rattle.refusal.proofs.Over.{writes-refused, writes-accepted}
 use Rattle.refusal.proofs.Told.{refused-when, passed-when}
@@ -31,7 +32,7 @@ use Rattle.streaming.proofs.Running.{Ran, ran-none, ran-more, flush-is-
 -- ---- the answers
 
 module _ (code : ConvCode) (late : ℕ) (st : State) (room : ℕ) where
-  refused-said : room < late → flushSaid code late st room ≡ refused 4 0
+  refused-said : room < late → flushSaid code late st room ≡ refused shortOutput 0
   unfolding flushSaid
   refused-said h = sym (refused-when (ltb room late) 4 _ (lt-ltb room late h))
 
@@ -49,7 +50,7 @@ module _ (code : ConvCode) (late : ℕ) (st : State) (room : ℕ) where
       flush-is-run code late st ∙ where-false (ltb room late) st (flushed code late st) (le-ltb room late h)
 
 pub room-refused :
-    {front : Front} {history out : List ℕ} (answer : Counted) → Counts answer (refused 4 0) → length out < lag →
+    {front : Front} {history out : List ℕ} (answer : Counted) → Counts answer (refused shortOutput 0) → length out < lag →
     FlushesLent front (record { answer = answer; front = front }) (record { given = history; left = history })
     (record { given = out; left = out })
 room-refused {front} {history} {out} answer says h =

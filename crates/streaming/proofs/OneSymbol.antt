@@ -12,6 +12,7 @@ use lib.ListN.{drop}
 use Rattle.f32s.specs.Single.{within}
 use Rattle.refusal.specs.Answer.{accepted, refused}
 use Rattle.refusal.specs.Lent.{Lent}
+use Rattle.refusal.specs.Numbers.{badComponent}
 use Rattle.trellis.specs.Choice.{k5}
 use Rattle.streaming.specs.declared.Emitted.the-variants as emitted
 use Rattle.streaming.specs.declared.FedLent.{FedLent}
@@ -82,7 +83,7 @@ module _ {front : Front} {history : List ℕ} {re im : Float} {r : FedLent} wher
   unfolding feedSaid feedLeaves
   refused-re refuses e =
       record {
-        answer = refuses .answer ∙ where-bad-re re im _ _ (refused 7 1) e;
+        answer = refuses .answer ∙ where-bad-re re im _ _ (refused badComponent 1) e;
         state = ap (λ (f : Front). stateOf f history) (refuses .state) ∙ where-bad-re re im _ _ (stateOf front history) e;
       }
 
@@ -92,7 +93,7 @@ module _ {front : Front} {history : List ℕ} {re im : Float} {r : FedLent} wher
   unfolding feedSaid feedLeaves
   refused-im refuses e f =
       record {
-        answer = refuses .answer ∙ where-bad-im re im _ (refused 7 0) _ e f;
+        answer = refuses .answer ∙ where-bad-im re im _ (refused badComponent 0) _ e f;
         state = ap (λ (f : Front). stateOf f history) (refuses .state) ∙ where-bad-im re im _ (stateOf front history) _ e f;
       }
 

@@ -8,6 +8,7 @@ use lib.Ieee.{Float}
 use lib.ListN.{replicate}
 use Rattle.f32s.specs.Single.{within}
 use Rattle.refusal.specs.Answer.{Said, accepted, refused}
+use Rattle.refusal.specs.Numbers.{badComponent}
 use Rattle.refusal.proofs.Filling.{Written, none-written}
 use Rattle.trellis.specs.declared.ConvCode.{ConvCode}
 use Rattle.streaming.specs.Stream.{State, fed, given}
@@ -102,7 +103,7 @@ module _ (code : ConvCode) (lag : ℕ) (st : State) (xs : List Symbol) (re im : 
     where
       go :
           (p q : Bool) →
-          runGives code lag st xs ++ bitsIn (cond p (cond q (accepted (given code lag next)) (refused 7 1)) (refused 7 0))
+          runGives code lag st xs ++ bitsIn (cond p (cond q (accepted (given code lag next)) (refused badComponent 1)) (refused badComponent 0))
           ≡ runGives code lag st (cond p (cond q (record { re = re; im = im } ∷ xs) xs) xs)
       go true true = refl
       go true false = append-nil (runGives code lag st xs)

@@ -6,6 +6,7 @@ use lib.Ieee.{Float}
 use lib.ListN.{drop}
 use Rattle.refusal.specs.Answer.{refused, Counts}
 use Rattle.refusal.specs.Lent.{Lent}
+use Rattle.refusal.specs.Numbers.{badComponent}
 use Rattle.trellis.specs.Choice.{k5}
 use Rattle.streaming.specs.declared.Front.{Front}
 use Rattle.streaming.specs.declared.FedLent.{FedLent}
@@ -50,7 +51,7 @@ pub record LiesBehind (history : List ℕ) (row s r : ℕ) : Type 0 where
 
 -- `refused_at`: refusal 7, and the front as it came
 pub record RefusesAt (place : ℕ) (front : Front) (r : FedLent) : Type 0 where
-  pub answer : emittedSaid (r .answer) ≡ refused 7 place
+  pub answer : emittedSaid (r .answer) ≡ refused badComponent place
   pub state : r .front ≡ front
 
 -- `advance`: the front r and the history are the state after the symbol

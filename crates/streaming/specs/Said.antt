@@ -8,6 +8,7 @@ use lib.Ieee.{Float}
 use lib.ListN.{length}
 use Rattle.f32s.specs.Single.{within}
 use Rattle.refusal.specs.Answer.{Said, accepted, refused, refuseWhen}
+use Rattle.refusal.specs.Numbers.{shortOutput, badComponent}
 use Rattle.trellis.specs.declared.ConvCode.{ConvCode}
 use Rattle.streaming.specs.declared.Emitted.{Emitted}
 use Rattle.streaming.specs.declared.Emitted.the-variants as emitted
@@ -22,7 +23,9 @@ module _ (code : ConvCode) (lag : ℕ) (st : State) where
   -- no bit or one; or refusal 7, where re is place 0 and im place 1
   unfoldable pub feedSaid : Float → Float → Said (List ℕ)
   unfolding fed given
-  feedSaid re im = ofSymbol re im (accepted (given code lag (fed code lag st re im))) (refused 7 0) (refused 7 1)
+  feedSaid re im =
+      ofSymbol re im (accepted (given code lag (fed code lag st re im))) (refused badComponent 0)
+      (refused badComponent 1)
 
   -- a refusal leaves the state as it was
   unfoldable pub feedLeaves : Float → Float → State
@@ -32,7 +35,7 @@ module _ (code : ConvCode) (lag : ℕ) (st : State) where
   -- how many bits were written; or refusal 4, where there is room for fewer than the lag
   unfoldable pub flushSaid : ℕ → Said ℕ
   unfolding flushGives
-  flushSaid room = refuseWhen (ltb room lag) 4 (accepted (length (flushGives code lag st)))
+  flushSaid room = refuseWhen (ltb room lag) shortOutput (accepted (length (flushGives code lag st)))
 
   unfoldable pub flushLeaves : ℕ → State
   unfolding flushed

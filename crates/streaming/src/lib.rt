@@ -99,7 +99,7 @@ fn refused_at(place: u32, front: Front) -> FedLent
     ensures { λ r. ⌜ RefusesAt place front r ⌝ }
 {
     FedLent {
-        answer: Emitted::Refused(Refusal { number: 7, place }),
+        answer: Emitted::Refused(Refusal { number: refusal::BAD_COMPONENT, place }),
         front,
     }
 }
@@ -164,7 +164,7 @@ fn flush_lent(front: Front, history: &mut [u8; 2048], out: &mut [u8]) -> Flushed
 {
     if out.len() < LAG {
         return FlushedLent {
-            answer: refusal::no_count(4),
+            answer: refusal::no_count(refusal::SHORT_OUTPUT),
             front,
         };
     }

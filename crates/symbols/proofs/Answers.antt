@@ -14,6 +14,7 @@ use Rattle.refusal.specs.Answer.{Said, accepted, refused, Counts}
 use Rattle.refusal.specs.First.{firstBad}
 use Rattle.refusal.specs.Lent.{over, Lent}
 use Rattle.refusal.specs.Limits.{most}
+use Rattle.refusal.specs.Numbers.{tooMany, shortOutput, shortScratch, badComponent}
 use Rattle.refusal.proofs.FirstBad.{some-bad, none-bad}
 use Rattle.refusal.proofs.Over.{both-accepted}
 use Rattle.trellis.specs.declared.ConvCode.{ConvCode}
@@ -43,17 +44,17 @@ module _ (soft : List Float) (room scratch : ℕ) where
   abbrev count : ℕ
   count = symbolsIn soft
 
-  pub too-many : most < count → said ≡ refused 3 0
+  pub too-many : most < count → said ≡ refused tooMany 0
   unfolding softSaid
   too-many h = rw (lt-ltb most count h)
 
   module _ (a : count ≤ most) where
-    pub no-room : room < count → said ≡ refused 4 0
+    pub no-room : room < count → said ≡ refused shortOutput 0
     unfolding softSaid
     no-room h = rw (le-ltb most count a, lt-ltb room count h)
 
     module _ (b : count ≤ room) where
-      pub no-scratch : scratch < rowsOf count → said ≡ refused 5 0
+      pub no-scratch : scratch < rowsOf count → said ≡ refused shortScratch 0
       unfolding softSaid
       no-scratch h = rw (le-ltb most count a, le-ltb room count b, lt-ltb scratch (rowsOf count) h)
 
@@ -69,11 +70,11 @@ module _ (soft : List Float) (room scratch : ℕ) where
         unfolding softSaid
         said-of-used = room-enough count room scratch _ a b c
 
-        pub beyond : bad < 2 * count → said ≡ refused 7 bad
-        beyond h = said-of-used ∙ some-bad within 7 used (accepted count) bad of-bad (omega (arith, sized))
+        pub beyond : bad < 2 * count → said ≡ refused badComponent bad
+        beyond h = said-of-used ∙ some-bad within badComponent used (accepted count) bad of-bad (omega (arith, sized))
 
         pub all-within : 2 * count ≤ bad → said ≡ accepted count
-        all-within h = said-of-used ∙ none-bad within 7 used (accepted count) bad of-bad (omega (arith, sized))
+        all-within h = said-of-used ∙ none-bad within badComponent used (accepted count) bad of-bad (omega (arith, sized))
 
 -- ---- what a decoding leaves is what it promises
 
@@ -103,7 +104,7 @@ module _ (bits : List ℕ) where
   hard-soft room scratch =
       rw (same-symbols, all-taken, none-beyond bits, le-ltb (length (phasorsOf bits)) (length (phasorsOf bits)) (omega arith))
 
-  pub hard-too-many : (room scratch : ℕ) → most < symbolsIn bits → hardSaid bits room scratch ≡ refused 3 0
+  pub hard-too-many : (room scratch : ℕ) → most < symbolsIn bits → hardSaid bits room scratch ≡ refused tooMany 0
   unfolding hardSaid
   hard-too-many room scratch h = rw (lt-ltb most (symbolsIn bits) h)
 

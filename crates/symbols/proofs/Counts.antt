@@ -11,6 +11,7 @@ use Rattle.branches.specs.Smallest.{smallest}
 use Rattle.f32s.specs.Single.{within}
 use Rattle.refusal.specs.Answer.{Said, accepted}
 use Rattle.refusal.specs.Limits.{most}
+use Rattle.refusal.specs.Numbers.{tooMany, shortOutput, shortScratch, badComponent}
 use Rattle.refusal.proofs.FirstBad.{accepted-past-bad}
 use Rattle.refusal.proofs.Told.{accepted-past, accepted-told}
 use Rattle.trellis.specs.declared.ConvCode.{ConvCode}
@@ -34,8 +35,8 @@ room-past :
     {A : Type 0} (count room scratch : ℕ) (rest : Said A) (a : A) → roomFor count room scratch rest ≡ accepted a →
     rest ≡ accepted a
 room-past count room scratch rest a e =
-    accepted-past (ltb scratch (count * 2 ^ k5 .width)) 5 rest a
-    (accepted-past (ltb room count) 4 _ a (accepted-past (ltb most count) 3 _ a e))
+    accepted-past (ltb scratch (count * 2 ^ k5 .width)) shortScratch rest a
+    (accepted-past (ltb room count) shortOutput _ a (accepted-past (ltb most count) tooMany _ a e))
 
 -- `viterbi_decode`
 pub soft-count :
@@ -45,7 +46,7 @@ unfolding softSaid
 soft-count soft room scratch n e =
     let fits = room-past (symbolsIn soft) room scratch _ n e in
     length-word k5 soft (symbolsIn soft)
-    ∙ accepted-told _ n (accepted-past-bad within 7 (take (2 * symbolsIn soft) soft) _ n fits)
+    ∙ accepted-told _ n (accepted-past-bad within badComponent (take (2 * symbolsIn soft) soft) _ n fits)
 
 -- `viterbi_decode_hard`
 pub hard-count :

@@ -8,19 +8,20 @@ use Rattle.f32s.specs.Single.{within}
 use Rattle.refusal.specs.Answer.{Said, accepted, refuseWhen}
 use Rattle.refusal.specs.First.{firstBad, refuseAtBad}
 use Rattle.refusal.specs.Limits.{most}
+use Rattle.refusal.specs.Numbers.{tooMany, shortOutput, shortScratch, badComponent}
 use Rattle.trellis.specs.Choice.{k5}
 use Rattle.symbols.specs.Costs.{phasorOf}
 
 -- refusal 7 at the first component that is NaN or beyond ±1,024
 abbrev pub examined : {A : Type 0} → List Float → Said A → Said A
-examined used rest = refuseAtBad 7 within used rest
+examined used rest = refuseAtBad badComponent within used rest
 
 -- so many symbols, a byte each for the output and a row of survivors each for scratch
 abbrev pub roomFor : {A : Type 0} → (count room scratch : ℕ) → Said A → Said A
 roomFor count room scratch rest =
-    refuseWhen (ltb most count) 3
-    (refuseWhen (ltb room count) 4
-    (refuseWhen (ltb scratch (count * 2 ^ k5 .width)) 5 rest))
+    refuseWhen (ltb most count) tooMany
+    (refuseWhen (ltb room count) shortOutput
+    (refuseWhen (ltb scratch (count * 2 ^ k5 .width)) shortScratch rest))
 
 -- an odd last component is ignored and unexamined
 abbrev pub symbolsIn : {A : Type 0} → List A → ℕ

@@ -30,19 +30,19 @@ pub fn viterbi_decode(soft: &[f32], out: &mut [u8], scratch: &mut [u8]) -> Count
 {
     let count = soft.len() / 2;
     if refusal::MOST < count {
-        return refusal::no_count(3);
+        return refusal::no_count(refusal::TOO_MANY);
     }
     if out.len() < count {
-        return refusal::no_count(4);
+        return refusal::no_count(refusal::SHORT_OUTPUT);
     }
     if scratch.len() < count * STATES {
-        return refusal::no_count(5);
+        return refusal::no_count(refusal::SHORT_SCRATCH);
     }
     let used = 2 * count;
     let bad = refusal::first_beyond(&soft[..used]);
     if bad < used {
         return Counted::Refused(Refusal {
-            number: 7,
+            number: refusal::BAD_COMPONENT,
             place: bad as u32,
         });
     }
@@ -73,7 +73,7 @@ pub fn viterbi_decode_hard(bits: &[u8], out: &mut [u8], scratch: &mut [u8]) -> C
 {
     let count = bits.len() / 2;
     if refusal::MOST < count {
-        return refusal::no_count(3);
+        return refusal::no_count(refusal::TOO_MANY);
     }
     let mut soft = [0.0; MOST_COMPONENTS];
     fill_phasors(bits, count, &mut soft[..]);

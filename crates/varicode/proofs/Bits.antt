@@ -10,6 +10,7 @@ use Rattle.queue.specs.declared.CharQueue.{CharQueue}
 use Rattle.queue.specs.Records.{chars}
 use Rattle.queue.specs.Ring.{Ring, readAs, putOne, putAll, charRoom}
 use Rattle.refusal.specs.Answer.{accepted, refused, doneSaid}
+use Rattle.refusal.specs.Numbers.{badBit, queueFull}
 use Rattle.varicode_words.specs.Word.{decodeOf}
 use Rattle.varicode.specs.declared.reader.VaricodeDecoder.{VaricodeDecoder}
 use Rattle.varicode.specs.declared.reader.Pushed.{Pushed}
@@ -24,7 +25,8 @@ abbrev made : Heard → Ring → Reader
 made h q = record { heard = h; chars = q }
 
 -- a bit above 1
-pub pushes-bad : (d : VaricodeDecoder) (b : ℕ) (r : Pushed) → 1 < b → doneSaid (r .answer) ≡ refused 8 0 → r .decoder ≡ d → Pushes d b r
+pub pushes-bad :
+    (d : VaricodeDecoder) (b : ℕ) (r : Pushed) → 1 < b → doneSaid (r .answer) ≡ refused badBit 0 → r .decoder ≡ d → Pushes d b r
 unfolding bitSaid bitLeaves
 pushes-bad d b r h a s = let bad = lt-ltb 1 b h in record { answer = a ∙ rw bad; state = ap reader s ∙ rw bad }
 
@@ -76,7 +78,7 @@ module _
   unfolding heardAfter
   forgets = rw zero-before
 
-  pushes-refused : noRoom letter (chars (d .chars)) ≡ true → doneSaid (r .answer) ≡ refused 9 0 → r .decoder ≡ d → Pushes d 0 r
+  pushes-refused : noRoom letter (chars (d .chars)) ≡ true → doneSaid (r .answer) ≡ refused queueFull 0 → r .decoder ≡ d → Pushes d 0 r
   unfolding bitSaid bitLeaves
   pushes-refused full a s = record { answer = a ∙ rw (brings, full); state = ap reader s ∙ rw (brings, full) }
 
@@ -97,7 +99,7 @@ module _ (d : VaricodeDecoder) (r : Pushed) (zero-before : d .«prev_zero» ≡ 
 
   module _
       (c : ℕ) (one : c ∷ [] ≡ decodeOf (d .shift / 2) (d .len % 12 - 1)) (q : Ring) (read : q ≡ readAs charRoom (chars (d .chars))) where
-    pub pushes-full : q .count ≡ charRoom → doneSaid (r .answer) ≡ refused 9 0 → r .decoder ≡ d → Pushes d 0 r
+    pub pushes-full : q .count ≡ charRoom → doneSaid (r .answer) ≡ refused queueFull 0 → r .decoder ≡ d → Pushes d 0 r
     pushes-full full a s = pushes-refused d r zero-before (c ∷ []) one (no-room-when-full q (chars (d .chars)) read c full) a s
 
     pub pushes-byte :

@@ -11,6 +11,7 @@ use lib.ListN.{length}
 use Rattle.queue.specs.Ring.{Ring, InRange, readAs, putAll, inside, charRoom}
 use Rattle.queue.proofs.Rings.{empty-in-range, inside-empty, read-in-range, put-all-in-range, inside-put-all}
 use Rattle.refusal.specs.Answer.{accepted, refuseWhen}
+use Rattle.refusal.specs.Numbers.{badBit, queueFull}
 use Rattle.varicode.specs.Take.{taken, left}
 use Rattle.varicode.specs.Reader.{Heard, nothingHeard, ends, letterAt, heardAfter, joinedTo, lettersFrom, readHeard}
 use Rattle.varicode.specs.Reader.{Reader, freshReader, brought, noRoom, withLetter, bitSaid, bitLeaves, charLeaves}
@@ -81,10 +82,10 @@ reader-feeds :
 unfolding bitSaid bitLeaves brought
 reader-feeds r bits out b h said =
     let l = letterAt (readHeard (r .heard)) b in
-    let good = accepted-means 8 (ltb 1 b) (refuseWhen (noRoom l (r .chars)) 9 (accepted tt)) said in
-    let said9 : refuseWhen (noRoom l (r .chars)) 9 (accepted tt) ≡ accepted tt =
-    ap (λ (t : Bool). refuseWhen t 8 (refuseWhen (noRoom l (r .chars)) 9 (accepted tt))) (sym good) ∙ said in
-    let free = accepted-means 9 (noRoom l (r .chars)) (accepted tt) said9 in
+    let good = accepted-means badBit (ltb 1 b) (refuseWhen (noRoom l (r .chars)) queueFull (accepted tt)) said in
+    let said9 : refuseWhen (noRoom l (r .chars)) queueFull (accepted tt) ≡ accepted tt =
+    ap (λ (t : Bool). refuseWhen t badBit (refuseWhen (noRoom l (r .chars)) queueFull (accepted tt))) (sym good) ∙ said in
+    let free = accepted-means queueFull (noRoom l (r .chars)) (accepted tt) said9 in
     let now : readHeard (r .heard) ≡ heardAll nothingHeard bits = read-short (r .heard) (h .short) ∙ h .heard in
     let new = madeReader (heardAfter (readHeard (r .heard)) b) (withLetter l (r .chars)) in
     let same : bitLeaves r b ≡ new =

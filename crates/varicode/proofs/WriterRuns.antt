@@ -9,6 +9,7 @@ use lib.ListN.{length}
 use Rattle.queue.specs.Ring.{Ring, InRange, readAs, putAll, inside, bitRoom}
 use Rattle.queue.proofs.Rings.{empty-in-range, inside-empty, read-in-range, put-all-in-range, inside-put-all}
 use Rattle.refusal.specs.Answer.{accepted}
+use Rattle.refusal.specs.Numbers.{queueFull}
 use Rattle.varicode.specs.Take.{taken, left}
 use Rattle.varicode.specs.Writer.{Call, bitsPut, firstAfter, streamFrom}
 use Rattle.varicode.specs.Writer.{Writer, freshWriter, tooMany, putSaid, putLeaves, nextLeaves}
@@ -50,7 +51,7 @@ unfolding putSaid putLeaves tooMany
 writer-puts w calls out c h said =
     let bits = bitsPut (w .first) c in
     let read = read-in-range (h .in-range) in
-    let free = accepted-means 9 (ltb bitRoom (readAs bitRoom (w .pending) .count + length bits)) (accepted tt) said in
+    let free = accepted-means queueFull (ltb bitRoom (readAs bitRoom (w .pending) .count + length bits)) (accepted tt) said in
     let held : readAs bitRoom (w .pending) .count ≡ w .pending .count = ap (λ (q : Ring). q .count) read in
     let room : w .pending .count + length bits ≤ bitRoom =
     rw held at (ltb-false bitRoom (readAs bitRoom (w .pending) .count + length bits) free) in

@@ -5,6 +5,7 @@ use Prim.Native.Nat.{ℕ}
 use Rattle.queue.specs.declared.BitQueue.{BitQueue}
 use Rattle.queue.specs.declared.CharQueue.{CharQueue}
 use Rattle.refusal.specs.Answer.{accepted, refused, doneSaid}
+use Rattle.refusal.specs.Numbers.{queueFull}
 use Rattle.varicode.specs.declared.writer.VaricodeEncoder.{VaricodeEncoder}
 use Rattle.varicode.specs.declared.writer.Wrote.{Wrote}
 use Rattle.varicode.specs.declared.reader.VaricodeDecoder.{VaricodeDecoder}
@@ -18,7 +19,7 @@ pub record Accepts (q : BitQueue) (flag : Bool) (r : Wrote) : Type 0 where
   pub first : r .encoder .first ≡ flag
 
 pub record Refuses (e : VaricodeEncoder) (r : Wrote) : Type 0 where
-  pub answer : doneSaid (r .answer) ≡ refused 9 0
+  pub answer : doneSaid (r .answer) ≡ refused queueFull 0
   pub state : r .encoder ≡ e
 
 -- a bit that joins the word, and the word forgotten: what `push_bit` is made of

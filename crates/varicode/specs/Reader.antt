@@ -5,6 +5,7 @@ use Prim.Native.Nat.{ℕ, _+_, _-_, _*_, _/_, _%_, min}
 use lib.Dec.{ltb, eqb}
 use lib.ListN.{length}
 use Rattle.refusal.specs.Answer.{Said, accepted, refuseWhen}
+use Rattle.refusal.specs.Numbers.{badBit, queueFull}
 use Rattle.queue.specs.Ring.{Ring, empty, readAs, putAll, charRoom}
 use Rattle.varicode_words.specs.Word.{decodeOf}
 use Rattle.varicode.specs.Take.{left}
@@ -65,7 +66,7 @@ noRoom letter q = ltb charRoom (readAs charRoom q .count + length letter)
 -- refusal 8 exactly when the bit is above 1, and then 9 exactly when the character doesn't fit
 unfoldable pub bitSaid : Reader → ℕ → Said Unit
 unfolding brought noRoom
-bitSaid r b = refuseWhen (ltb 1 b) 8 (refuseWhen (noRoom (brought r b) (r .chars)) 9 (accepted tt))
+bitSaid r b = refuseWhen (ltb 1 b) badBit (refuseWhen (noRoom (brought r b) (r .chars)) queueFull (accepted tt))
 
 -- the queue with the character behind the others; as it came where there is none
 abbrev pub withLetter : List ℕ → Ring → Ring

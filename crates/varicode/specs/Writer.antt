@@ -5,6 +5,7 @@ use Prim.Native.Nat.{ℕ, _+_}
 use lib.Dec.{ltb}
 use lib.ListN.{length, replicate}
 use Rattle.refusal.specs.Answer.{Said, accepted, refuseWhen}
+use Rattle.refusal.specs.Numbers.{queueFull}
 use Rattle.queue.specs.Ring.{Ring, empty, readAs, putAll, bitRoom}
 use Rattle.varicode_words.specs.Word.{wordOf, bitsOf}
 use Rattle.varicode.specs.Take.{left}
@@ -55,7 +56,7 @@ tooMany w c = ltb bitRoom (readAs bitRoom (w .pending) .count + length (bitsPut 
 -- refusal 9 exactly then
 unfoldable pub putSaid : Writer → Call → Said Unit
 unfolding tooMany
-putSaid w c = refuseWhen (tooMany w c) 9 (accepted tt)
+putSaid w c = refuseWhen (tooMany w c) queueFull (accepted tt)
 
 -- the writer after a call: with the bits behind the others; as it came where the call is refused
 unfoldable pub putLeaves : Writer → Call → Writer

@@ -75,7 +75,7 @@ impl VaricodeDecoder {
     {
         if 1 < bit {
             return Pushed {
-                answer: refusal::not_done(8),
+                answer: refusal::not_done(refusal::BAD_BIT),
                 decoder: self,
             };
         }
@@ -101,7 +101,7 @@ impl VaricodeDecoder {
                 let q = chars.read();
                 if q.count == queue::CHARS {
                     return Pushed {
-                        answer: refusal::not_done(9),
+                        answer: refusal::not_done(refusal::QUEUE_FULL),
                         decoder: self,
                     };
                 }

@@ -66,7 +66,7 @@ fn refused(encoder: VaricodeEncoder) -> Wrote
     ensures { λ r. ⌜ Refuses encoder r ⌝ }
 {
     Wrote {
-        answer: refusal::not_done(9),
+        answer: refusal::not_done(refusal::QUEUE_FULL),
         encoder,
     }
 }
