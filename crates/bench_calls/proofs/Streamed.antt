@@ -100,7 +100,7 @@ streaming-starts {soft} {old} begins h =
     }
 
 module _ {soft : List Float} {old : List ℕ} {i : ℕ} {d : StreamingViterbi} {written : ℕ} where
-  pub streaming-inside :
+  streaming-inside :
       {out : List ℕ} → Streaming soft old i d out written → i < length soft / 2 → written < length out
   streaming-inside so-far h = written-inside (so-far .ran .bits) h (so-far .room)
 

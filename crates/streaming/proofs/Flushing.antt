@@ -72,7 +72,7 @@ pub flushing-starts : (front : Front) (history old : List ℕ) → lag ≤ lengt
 flushing-starts front history old h = record { room = h; few = omega arith; ran = ran-none }
 
 module _ {front₀ : Front} {history₀ old : List ℕ} {i : ℕ} {front : Front} {out : List ℕ} {written : ℕ} where
-  pub flushing-inside : {history : List ℕ} → Flushing front₀ history₀ old i front history out written → i < lag → written < length out
+  flushing-inside : {history : List ℕ} → Flushing front₀ history₀ old i front history out written → i < lag → written < length out
   flushing-inside so-far h = written-inside (so-far .ran .bits) h (so-far .room)
 
   module _

@@ -2,7 +2,7 @@
 use Prim.Native.Nat.{_-_}
 use native.Mathlib.Omega.{arith}
 use borrow.Author.Needs.{needs}
-use Rattle.bench_calls.proofs.Streamed.{Streaming, streaming-starts, streaming-inside, streaming-goes-on, streaming-ends}
+use Rattle.bench_calls.proofs.Streamed.{Streaming, streaming-starts, streaming-goes-on, streaming-ends}
 use Rattle.bench_calls.proofs.Streamed.{stream-refused}
 use Rattle.bench_calls.proofs.stream.Statement.{statement}
 use Rattle.bench_calls.proofs.stream.Tie as tie
@@ -19,11 +19,6 @@ returns c = stream-refused _ (c .no-count .result) (c .no-count .ensures) (omega
 loop-holds : tie.Need-loop-holds Inv-loop μ-loop
 loop-holds c = streaming-starts (c .new .ensures) (omega arith)
 
-put-bit-requires : tie.Need-put-bit-requires Inv-loop μ-loop
-put-bit-requires c κs =
-    let head : tie.At-loop Inv-loop μ-loop = search in
-    streaming-inside (head .loop .inv) (omega arith)
-
 loop-again : tie.Need-loop-again Inv-loop μ-loop
 loop-again c =
     let put : tie.After-put-bit Inv-loop μ-loop = search in
@@ -38,5 +33,5 @@ pub stream-spec : {M : Type 1} → statement M
 stream-spec =
     tie.close
     (tie.spec Inv-loop μ-loop (search needs) returns (search needs) loop-holds (search needs) (search needs) (search needs)
-    (search needs) (search needs) (search needs) (search needs) put-bit-requires (search needs) (search needs) loop-again
+    (search needs) (search needs) (search needs) (search needs) (λ c κs. omega arith) (search needs) (search needs) loop-again
     (search needs) returns-2)

@@ -8,7 +8,7 @@ use Rattle.streaming.proofs.bit_behind.Tie as tie
 state-behind-requires : tie.Need-state-behind-requires
 state-behind-requires c κs =
     let first : tie.After-first-least = search in
-    record { row-kept = omega arith; state-known = least-is-state _ (first .first-least .ensures) }
+    record { row-kept = omega arith; state-known = omega (arith, least-is-state _ (first .first-least .ensures)) }
 
 top-bit-requires : tie.Need-top-bit-requires
 top-bit-requires c κs = c .state-behind .ensures .state-known

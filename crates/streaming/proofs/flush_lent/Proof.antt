@@ -4,7 +4,7 @@ use Prim.Native.Nat.{_-_}
 use native.Mathlib.Omega.{arith}
 use borrow.Author.Needs.{needs}
 use Rattle.streaming.specs.Decoder.{lag}
-use Rattle.streaming.proofs.Flushing.{Flushing, flushing-starts, flushing-inside, flushing-nothing, flushing-bit}
+use Rattle.streaming.proofs.Flushing.{Flushing, flushing-starts, flushing-nothing, flushing-bit}
 use Rattle.streaming.proofs.Flushing.{room-refused, flushing-ends}
 use Rattle.streaming.proofs.flush_lent.Statement.{statement}
 use Rattle.streaming.proofs.flush_lent.Tie as tie
@@ -20,11 +20,6 @@ returns c = room-refused (c .no-count .result) (c .no-count .ensures) (omega ari
 
 loop-holds : tie.Need-loop-holds Inv-loop μ-loop
 loop-holds c = flushing-starts _ _ _ (omega arith)
-
-slice-write-out : tie.Need-slice-write-out Inv-loop μ-loop
-slice-write-out c =
-    let head : tie.At-loop Inv-loop μ-loop = search in
-    flushing-inside (head .loop .inv) (omega arith)
 
 loop-again : tie.Need-loop-again Inv-loop μ-loop
 loop-again c =
@@ -47,5 +42,5 @@ returns-2 c = flushing-ends (c .before .loop .inv) (omega arith)
 pub flush-lent-spec : {M : Type 1} → statement M
 flush-lent-spec =
     tie.close
-    (tie.spec Inv-loop μ-loop (λ c κs. tt) returns loop-holds (λ c κs. tt) (λ c κs. tt) slice-write-out
+    (tie.spec Inv-loop μ-loop (λ c κs. tt) returns loop-holds (λ c κs. tt) (λ c κs. tt) (λ c. omega arith)
     (λ c. omega arith) (λ c. omega arith) (λ c. omega arith) loop-again (search needs) returns-2)
