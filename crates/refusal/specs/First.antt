@@ -1,4 +1,5 @@
--- The place of the first value that a test does not pass, and the refusal at it. Over any kind of value. Definitions only.
+-- The place of the first value that a test does not pass, and the refusal at it, over any kind of value. Definitions
+-- only.
 use mathlib.Core.Bool.{Bool, cond}
 use mathlib.Core.List.{List, [], _∷_}
 use Prim.Native.Nat.{ℕ, zero, suc}
