@@ -103,7 +103,8 @@ module _ (code : ConvCode) (lag : ℕ) (st : State) (xs : List Symbol) (re im : 
     where
       go :
           (p q : Bool) →
-          runGives code lag st xs ++ bitsIn (cond p (cond q (accepted (given code lag next)) (refused badComponent 1)) (refused badComponent 0))
+          runGives code lag st xs
+          ++ bitsIn (cond p (cond q (accepted (given code lag next)) (refused badComponent 1)) (refused badComponent 0))
           ≡ runGives code lag st (cond p (cond q (record { re = re; im = im } ∷ xs) xs) xs)
       go true true = refl
       go true false = append-nil (runGives code lag st xs)

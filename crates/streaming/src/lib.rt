@@ -99,7 +99,10 @@ fn refused_at(place: u32, front: Front) -> FedLent
     ensures { λ r. ⌜ RefusesAt place front r ⌝ }
 {
     FedLent {
-        answer: Emitted::Refused(Refusal { number: refusal::BAD_COMPONENT, place }),
+        answer: Emitted::Refused(Refusal {
+            number: refusal::BAD_COMPONENT,
+            place,
+        }),
         front,
     }
 }
