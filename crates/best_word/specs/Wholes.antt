@@ -7,7 +7,7 @@ use lib.IntN.{ℤ, pos, natAbs}
 use lib.ListN.{length, getD}
 use Rattle.best_path.specs.Path.{Total, none, total}
 use Rattle.f32s.specs.Whole.{Whole, floatOf}
-use Rattle.branches.specs.Largest.{mark}
+use Rattle.butterflies.specs.Largest.{mark}
 
 -- the readings are the whole numbers zs, one by one
 pub record WholeReadings (readings : List Float) (zs : List ℤ) : Type 0 where

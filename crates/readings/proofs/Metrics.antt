@@ -17,7 +17,7 @@ use Rattle.f32s.specs.Single.{zero32}
 use Rattle.trellis.specs.declared.ConvCode.{ConvCode}
 use Rattle.trellis.specs.Codeword.{stepsOf}
 use Rattle.trellis.specs.Keep.{Keep}
-use Rattle.branches.specs.Largest.{mark, largest}
+use Rattle.butterflies.specs.Largest.{mark, largest}
 use Rattle.readings.specs.Sums.{soft, gain}
 use Rattle.readings.specs.Decode.{mets, score}
 

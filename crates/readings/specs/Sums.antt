@@ -3,7 +3,7 @@
 use mathlib.Core.List.{List}
 use Prim.Native.Nat.{ℕ}
 use lib.Ieee.{Float, binary32, add, sub, neg}
-use Rattle.branches.specs.Largest.{largest}
+use Rattle.butterflies.specs.Largest.{largest}
 use Rattle.correlation.specs.Arithmetic.{Arithmetic, Kind}
 use Rattle.correlation.specs.Gain as any
 use Rattle.f32s.specs.Single.{zero32}

@@ -9,9 +9,9 @@ ghost use Rattle.trellis.specs.Choice.{keepOf};
 ghost use Rattle.trellis.specs.Places.{filled};
 ghost use Rattle.readings.specs.Inner.{Selects, Runs};
 ghost use Rattle.readings.specs.Sums.{valueOf};
-use branches::largest::MARK;
-use branches::largest::butterfly;
-use branches::largest::signed;
+use butterflies::largest::MARK;
+use butterflies::largest::butterfly;
+use butterflies::largest::signed;
 use trellis::ConvCode;
 use trellis::KeepPattern;
 

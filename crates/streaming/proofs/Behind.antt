@@ -8,7 +8,7 @@ use lib.Dec.{lit<, lit≤}
 use lib.Ieee.{Float}
 use lib.ListN.{getD}
 use Rattle.best_path.specs.Run.{inputInto}
-use Rattle.branches.specs.Smallest.{smallest}
+use Rattle.butterflies.specs.Smallest.{smallest}
 use Rattle.symbols.specs.Decode.{firstLeast}
 use Rattle.symbols.proofs.Least.{least-below}
 use Rattle.trellis.specs.Choice.{k5}

@@ -16,7 +16,7 @@ use lib.Pow.{pow-pos, suc-ones}
 use Rattle.f32s.specs.Single.{zero32, within}
 use Rattle.f32s.proofs.Bounded.{wider-between, lt-value}
 use Rattle.f32s.proofs.Ranges.{zero-at-most}
-use Rattle.branches.specs.Smallest.{mark, smallest}
+use Rattle.butterflies.specs.Smallest.{mark, smallest}
 use Rattle.symbols.specs.Costs.{started}
 use Rattle.symbols.proofs.Bounds.{MarkOrUpTo, up-to-below, reached-up-to, started-bounded}
 use Rattle.trellis.specs.declared.ConvCode.{ConvCode}

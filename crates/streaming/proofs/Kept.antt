@@ -11,7 +11,7 @@ use lib.Ieee.{Float, nan}
 use lib.ListN.{length, getD, set, length-set}
 use lib.Seq.{set-getD}
 use Rattle.best_path.proofs.Survivors.{any-default}
-use Rattle.branches.specs.Smallest.{mark, smallest}
+use Rattle.butterflies.specs.Smallest.{mark, smallest}
 use Rattle.trellis.specs.Choice.{k5}
 use Rattle.streaming.specs.Stream.{kept}
 use Rattle.streaming.specs.Inner.{RowAt, Keeps}

@@ -9,7 +9,7 @@ use native.Mathlib.Omega.{arith}
 use lib.Ieee.{Float, lt}
 use lib.ListN.{getD}
 use Rattle.f32s.proofs.Ordered.{lt-trans, lt-irrefl}
-use Rattle.branches.specs.Smallest.{mark}
+use Rattle.butterflies.specs.Smallest.{mark}
 use Rattle.streaming.specs.Stream.{leastOf}
 
 -- the lesser of two: neither is below it

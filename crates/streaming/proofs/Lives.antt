@@ -9,7 +9,7 @@ use lib.Dec.{ltb}
 use lib.Ieee.{Float, ofBits, neg, lt, le}
 use lib.ListN.{length, getD, replicate}
 use Rattle.f32s.specs.Single.{zero32, within}
-use Rattle.branches.specs.Smallest.{mark, smallest}
+use Rattle.butterflies.specs.Smallest.{mark, smallest}
 use Rattle.trellis.specs.declared.ConvCode.{ConvCode}
 use Rattle.streaming.specs.Stream.{State, turns, fresh, given, bitBehind}
 use Rattle.streaming.specs.Run.{Symbol, nought, after, flushed, flushGives}

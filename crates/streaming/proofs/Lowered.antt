@@ -13,7 +13,7 @@ use Rattle.f32s.specs.Bounded.{UpTo}
 use Rattle.f32s.proofs.Ranges.{Range, from-not-below, bounds-ordered}
 use Rattle.f32s.proofs.RangeSums.{difference-range}
 use Rattle.f32s.specs.Single.{zero32}
-use Rattle.branches.specs.Smallest.{mark, smallest}
+use Rattle.butterflies.specs.Smallest.{mark, smallest}
 use Rattle.symbols.proofs.Bounds.{up-to-below}
 use Rattle.streaming.specs.Stream.{leastOf, lowered, normalised}
 use Rattle.streaming.proofs.Least.{Found, least-not-above, least-is-one}

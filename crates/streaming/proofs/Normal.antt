@@ -13,7 +13,7 @@ use lib.ListN.{length, getD, set, length-set}
 use Rattle.best_path.proofs.Candidates.{where-true, where-false}
 use Rattle.best_path.proofs.Survivors.{any-default}
 use Rattle.f32s.specs.Single.{zero32}
-use Rattle.branches.specs.Smallest.{mark}
+use Rattle.butterflies.specs.Smallest.{mark}
 use Rattle.trellis.specs.Choice.{k5}
 use Rattle.streaming.specs.declared.Front.{Front}
 use Rattle.streaming.specs.Stream.{turns, leastOf, lowered, normalised}

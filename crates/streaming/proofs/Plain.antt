@@ -21,7 +21,7 @@ use Rattle.f32s.proofs.Bounded.{sum-up-to}
 use Rattle.f32s.proofs.Ordered.{lt-trans, lt-irrefl}
 use Rattle.f32s.proofs.Ranges.{Range, up-to-not-above}
 use Rattle.f32s.proofs.RangeSums.{sum-range}
-use Rattle.branches.specs.Smallest.{mark, smallest}
+use Rattle.butterflies.specs.Smallest.{mark, smallest}
 use Rattle.symbols.specs.Costs.{costs}
 use Rattle.symbols.proofs.Bounds.{branch-bounded, up-to-below}
 use Rattle.trellis.specs.declared.ConvCode.{ConvCode}

@@ -13,7 +13,7 @@ use lib.ListN.{length, getD}
 use Rattle.f32s.specs.Bounded.{UpTo}
 use Rattle.f32s.specs.Single.{within}
 use Rattle.f32s.proofs.Ranges.{Range, from-not-below, from-zero, bounds-ordered, floored}
-use Rattle.branches.specs.Smallest.{mark, smallest}
+use Rattle.butterflies.specs.Smallest.{mark, smallest}
 use Rattle.symbols.proofs.Bounds.{MarkOrUpTo, up-to-below, reached-up-to}
 use Rattle.trellis.specs.declared.ConvCode.{ConvCode}
 use Rattle.streaming.proofs.Least.{Found, least-not-above, least-is-one}

@@ -9,7 +9,7 @@ use lib.ListN.{getD, set, replicate}
 use Rattle.best_path.specs.Run.{inputInto}
 use Rattle.best_path.specs.Step.{Cell, step}
 use Rattle.f32s.specs.Single.{zero32}
-use Rattle.branches.specs.Smallest.{mark, smallest}
+use Rattle.butterflies.specs.Smallest.{mark, smallest}
 use Rattle.symbols.specs.Costs.{costs, started}
 use Rattle.symbols.specs.Decode.{firstLeast}
 use Rattle.trellis.specs.declared.ConvCode.{ConvCode}

@@ -3,12 +3,12 @@ ghost use mathlib.Core.Bool.{cond};
 ghost use mathlib.Core.Path.{_≡_};
 ghost use Prim.Native.Nat.{_^_, _<_};
 ghost use Rattle.best_path.specs.Run.{inputInto};
-ghost use Rattle.branches.specs.Smallest.{smallest};
+ghost use Rattle.butterflies.specs.Smallest.{smallest};
 ghost use Rattle.refusal.specs.Lent.{lent};
 ghost use Rattle.trellis.specs.Choice.{k5};
 ghost use Rattle.streaming.specs.Inner.{RowAt, Keeps, InHistory, LiesBehind};
 use crate::LAG;
-use branches::smallest::MARK;
+use butterflies::smallest::MARK;
 
 // The survivor of a state of metric m, and the old entry where no candidate won.
 fn survivor(m: f32, new: u8, old: u8) -> u8

@@ -14,7 +14,7 @@ mod history;
 mod metrics;
 mod sent;
 
-use branches::smallest::MARK;
+use butterflies::smallest::MARK;
 use history::keep;
 use history::state_behind;
 use history::top_bit;

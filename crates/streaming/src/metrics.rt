@@ -9,7 +9,7 @@ ghost use Rattle.streaming.specs.Inner.{SelectsNew, NormalisedAfter};
 use crate::Front;
 use crate::sent::SENT0;
 use crate::sent::SENT1;
-use branches::smallest::MARK;
+use butterflies::smallest::MARK;
 use symbols::forward_pass::step;
 
 // One symbol: the new metrics go to next, the survivors to the front of froms.
@@ -30,7 +30,7 @@ fn least_of(pm: &[f32; 16]) -> f32
     let whole = &pm[..];
     let mut least = MARK;
     for s in 0..16 {
-        least = branches::smallest::smaller(least, pm[s]);
+        least = butterflies::smallest::smaller(least, pm[s]);
     }
     least
 }

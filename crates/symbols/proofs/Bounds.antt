@@ -20,7 +20,7 @@ use Rattle.f32s.proofs.Ordered.{lt-irrefl}
 use Rattle.trellis.specs.declared.ConvCode.{ConvCode}
 use Rattle.trellis.specs.State.{window, parityOf}
 use Rattle.symbols.specs.declared.phasors.Phasor.{Phasor}
-use Rattle.branches.specs.Smallest.{mark, smallest}
+use Rattle.butterflies.specs.Smallest.{mark, smallest}
 use Rattle.symbols.specs.Costs.{one32, phasors, phasorOf, cost, costs, started}
 use Rattle.symbols.specs.Decode.{symbolCosts, mets}
 

@@ -7,7 +7,7 @@ use lib.Dec.{ltb}
 use lib.Ieee.{Float}
 use lib.ListN.{length, take}
 use Rattle.best_path.proofs.Rows.{length-rows, length-traced}
-use Rattle.branches.specs.Smallest.{smallest}
+use Rattle.butterflies.specs.Smallest.{smallest}
 use Rattle.f32s.specs.Single.{within}
 use Rattle.refusal.specs.Answer.{Said, accepted}
 use Rattle.refusal.specs.Limits.{most}

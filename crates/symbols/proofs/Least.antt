@@ -8,7 +8,7 @@ use native.Mathlib.Omega.{arith}
 use lib.Ieee.{Float, nan, lt}
 use lib.ListN.{length, getD}
 use Rattle.best_path.proofs.Survivors.{any-default}
-use Rattle.branches.specs.Smallest.{mark}
+use Rattle.butterflies.specs.Smallest.{mark}
 use Rattle.symbols.specs.Decode.{firstLeast}
 use Rattle.symbols.specs.Inner.{half}
 

@@ -15,7 +15,7 @@ use Rattle.f32s.specs.Single.{zero32}
 use Rattle.trellis.specs.declared.ConvCode.{ConvCode}
 use Rattle.trellis.specs.Inner.{Halved, Crossed}
 use Rattle.trellis.proofs.States.{states-two-halves}
-use Rattle.branches.specs.Smallest.{mark, smallest}
+use Rattle.butterflies.specs.Smallest.{mark, smallest}
 use Rattle.symbols.specs.Costs.{costs, started}
 use Rattle.symbols.specs.Decode.{symbolCosts, firstLeast, mets, froms, filledRows}
 use Rattle.symbols.specs.Inner.{half, newMets, newFroms, Selects, Runnable, Runs}

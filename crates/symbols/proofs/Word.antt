@@ -14,7 +14,7 @@ use Rattle.best_path.specs.Run.{traced}
 use Rattle.best_path.proofs.Rows.{StateRows, length-traced, left-traceable, left-way-back}
 use Rattle.trellis.specs.declared.ConvCode.{ConvCode}
 use Rattle.trellis.specs.Inner.{Halved}
-use Rattle.branches.specs.Smallest.{smallest}
+use Rattle.butterflies.specs.Smallest.{smallest}
 use Rattle.symbols.specs.Decode.{mets, froms, word}
 use Rattle.symbols.specs.Inner.{half, Runs, Decodable, Finds}
 use Rattle.symbols.proofs.Least.{least-below}

@@ -4,7 +4,7 @@ use Prim.Native.Nat.{ℕ, _+_, _*_}
 use lib.Ieee.{Float, binary32, ofBits, neg, add, sub, mul}
 use lib.ListN.{getD}
 use Rattle.best_path.specs.Run.{startedAt}
-use Rattle.branches.specs.Smallest.{smallest}
+use Rattle.butterflies.specs.Smallest.{smallest}
 use Rattle.f32s.specs.Single.{zero32}
 use Rattle.trellis.specs.declared.ConvCode.{ConvCode}
 use Rattle.trellis.specs.State.{window, parityOf}

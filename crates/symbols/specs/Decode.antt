@@ -7,7 +7,7 @@ use lib.ListN.{getD}
 use Rattle.best_path.specs.Rows.{firstRows}
 use Rattle.best_path.specs.Run.{metsAfter, survivors, traced}
 use Rattle.trellis.specs.declared.ConvCode.{ConvCode}
-use Rattle.branches.specs.Smallest.{mark, smallest}
+use Rattle.butterflies.specs.Smallest.{mark, smallest}
 use Rattle.symbols.specs.Costs.{costs, started}
 
 -- the first least of the states below n: state 0, moving on only to a strictly smaller metric

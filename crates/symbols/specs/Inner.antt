@@ -11,7 +11,7 @@ use Rattle.refusal.specs.Lent.{Lent}
 use Rattle.refusal.specs.Limits.{most}
 use Rattle.trellis.specs.declared.ConvCode.{ConvCode}
 use Rattle.trellis.specs.Inner.{Halved, Crossed}
-use Rattle.branches.specs.Smallest.{smallest}
+use Rattle.butterflies.specs.Smallest.{smallest}
 use Rattle.symbols.specs.Costs.{cost, costs, phasorOf}
 use Rattle.symbols.specs.Decode.{firstLeast, mets, word, filledRows}
 use Rattle.symbols.specs.Said.{symbolsIn, phasorsOf}

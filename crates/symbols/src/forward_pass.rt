@@ -7,8 +7,8 @@ ghost use Rattle.symbols.specs.Decode.{firstLeast};
 ghost use Rattle.symbols.specs.Inner.{half, Steppable, Selects, Runnable, Runs};
 use crate::phasors::cost_of_pair;
 use crate::phasors::prices_of;
-use branches::smallest::MARK;
-use branches::smallest::butterfly;
+use butterflies::smallest::MARK;
+use butterflies::smallest::butterfly;
 use trellis::ConvCode;
 
 // Half of the states, and all of them.

@@ -1,7 +1,7 @@
 -- `streaming::history::survivor`, by its test. Assumes nothing.
 use lib.Ieee.{lt}
 use Rattle.best_path.proofs.Candidates.{where-true, where-false}
-use Rattle.branches.specs.Smallest.{mark}
+use Rattle.butterflies.specs.Smallest.{mark}
 use Rattle.streaming.proofs.history.survivor.Statement.{statement}
 use Rattle.streaming.proofs.history.survivor.Tie as tie
 

@@ -1,7 +1,7 @@
 -- `streaming::metrics::lower`, by its test. Assumes nothing.
 use lib.Ieee.{lt}
 use Rattle.best_path.proofs.Candidates.{where-true, where-false}
-use Rattle.branches.specs.Smallest.{mark}
+use Rattle.butterflies.specs.Smallest.{mark}
 use Rattle.streaming.proofs.metrics.lower.Statement.{statement}
 use Rattle.streaming.proofs.metrics.lower.Tie as tie
 

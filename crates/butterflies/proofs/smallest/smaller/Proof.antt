@@ -1,8 +1,8 @@
--- `branches::smallest::smaller`, by its test. Assumes nothing.
+-- `butterflies::smallest::smaller`, by its test. Assumes nothing.
 use lib.Ieee.{lt}
 use Rattle.best_path.proofs.Candidates.{where-true, where-false}
-use Rattle.branches.proofs.smallest.smaller.Statement.{statement}
-use Rattle.branches.proofs.smallest.smaller.Tie as tie
+use Rattle.butterflies.proofs.smallest.smaller.Statement.{statement}
+use Rattle.butterflies.proofs.smallest.smaller.Tie as tie
 
 returns : tie.Need-returns
 returns c = where-true (lt (c .before .args .x) (c .before .args .z)) _ _ (c .if1 .taken)

@@ -1,9 +1,9 @@
--- `branches::largest::from_larger`, by its test. Assumes nothing.
+-- `butterflies::largest::from_larger`, by its test. Assumes nothing.
 use borrow.Author.Needs.{needs}
 use lib.Ieee.{lt}
 use Rattle.best_path.proofs.Candidates.{where-true, where-false}
-use Rattle.branches.proofs.largest.from_larger.Statement.{statement}
-use Rattle.branches.proofs.largest.from_larger.Tie as tie
+use Rattle.butterflies.proofs.largest.from_larger.Statement.{statement}
+use Rattle.butterflies.proofs.largest.from_larger.Tie as tie
 
 returns : tie.Need-returns
 returns c = where-true (lt (c .before .args .z) (c .before .args .x)) _ _ (c .if1 .taken)

@@ -1,9 +1,9 @@
--- `branches::smallest::from_smaller`, by its test. Assumes nothing.
+-- `butterflies::smallest::from_smaller`, by its test. Assumes nothing.
 use borrow.Author.Needs.{needs}
 use lib.Ieee.{lt}
 use Rattle.best_path.proofs.Candidates.{where-true, where-false}
-use Rattle.branches.proofs.smallest.from_smaller.Statement.{statement}
-use Rattle.branches.proofs.smallest.from_smaller.Tie as tie
+use Rattle.butterflies.proofs.smallest.from_smaller.Statement.{statement}
+use Rattle.butterflies.proofs.smallest.from_smaller.Tie as tie
 
 returns : tie.Need-returns
 returns c = where-true (lt (c .before .args .x) (c .before .args .z)) _ _ (c .if1 .taken)

@@ -8,10 +8,10 @@ use Rattle.best_path.specs.declared.Wing.{Wing}
 use Rattle.best_path.specs.Metric.{Metric}
 use Rattle.best_path.specs.Post.{Winged}
 use Rattle.best_path.specs.Step.{Cell}
-use Rattle.branches.proofs.largest.butterfly.Reads as butterfly-of-sums
-use Rattle.branches.proofs.largest.signed.Reads as signed
-use Rattle.branches.proofs.smallest.butterfly.Reads as butterfly-of-costs
-use Rattle.branches.proofs.smallest.smaller.Reads as smaller
+use Rattle.butterflies.proofs.largest.butterfly.Reads as butterfly-of-sums
+use Rattle.butterflies.proofs.largest.signed.Reads as signed
+use Rattle.butterflies.proofs.smallest.butterfly.Reads as butterfly-of-costs
+use Rattle.butterflies.proofs.smallest.smaller.Reads as smaller
 
 abbrev bestOf : Cell Float → Best
 bestOf c = record { met = c .met; from = c .from }

@@ -5,8 +5,8 @@ use mathlib.Core.Path.{_≡_, refl}
 use lib.Ieee.{Float, nan, inf, fin, binary32, ofBits, add, lt, le, isNan}
 use Rattle.best_path.proofs.Candidates.{Strict}
 use Rattle.f32s.proofs.Ordered.{lt-trans, lt-irrefl, not-lt-le}
-use Rattle.branches.specs.Largest as larger
-use Rattle.branches.specs.Smallest as smaller
+use Rattle.butterflies.specs.Largest as larger
+use Rattle.butterflies.specs.Smallest as smaller
 
 -- ---- sums
 

@@ -1,9 +1,9 @@
--- `branches::largest::best_of`: any candidate won, or none. Assumes nothing.
+-- `butterflies::largest::best_of`: any candidate won, or none. Assumes nothing.
 use borrow.Author.Needs.{needs}
 use Rattle.best_path.proofs.Candidates.{any-won, none-won}
-use Rattle.branches.proofs.Orders.{largest-strict}
-use Rattle.branches.proofs.largest.best_of.Statement.{statement}
-use Rattle.branches.proofs.largest.best_of.Tie as tie
+use Rattle.butterflies.proofs.Orders.{largest-strict}
+use Rattle.butterflies.proofs.largest.best_of.Statement.{statement}
+use Rattle.butterflies.proofs.largest.best_of.Tie as tie
 
 returns : tie.Need-returns
 returns c =

@@ -1,8 +1,8 @@
--- `branches::largest::larger`, by its test. Assumes nothing.
+-- `butterflies::largest::larger`, by its test. Assumes nothing.
 use lib.Ieee.{lt}
 use Rattle.best_path.proofs.Candidates.{where-true, where-false}
-use Rattle.branches.proofs.largest.larger.Statement.{statement}
-use Rattle.branches.proofs.largest.larger.Tie as tie
+use Rattle.butterflies.proofs.largest.larger.Statement.{statement}
+use Rattle.butterflies.proofs.largest.larger.Tie as tie
 
 returns : tie.Need-returns
 returns c = where-true (lt (c .before .args .z) (c .before .args .x)) _ _ (c .if1 .taken)

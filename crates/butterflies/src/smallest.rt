@@ -5,7 +5,7 @@ ghost use Prim.Native.Nat.{_+_, _<_};
 ghost use lib.Ieee.{nan, lt};
 ghost use Rattle.best_path.specs.Post.{cellOf, Winged};
 ghost use Rattle.best_path.specs.Step.{unreached, chosen};
-ghost use Rattle.branches.specs.Smallest.{smallest};
+ghost use Rattle.butterflies.specs.Smallest.{smallest};
 use best_path::Best;
 use best_path::Wing;
 
@@ -14,7 +14,7 @@ pub const MARK: f32 = 1.70141173e38;
 
 // A state's metric, or a NaN where it was not reached: a sum with that is a NaN too, which is never the
 // smaller one. So a branch needs no test of its own, and the loop of a step is vectorised well.
-fn standing(m: f32) -> f32
+fn or_nan(m: f32) -> f32
     ensures { λ r. ⌜ r ≡ cond (smallest .reached m) m nan ⌝ }
 {
     if m < MARK { m } else { 0.0 / 0.0 }
@@ -55,8 +55,8 @@ pub fn butterfly(m0: f32, m1: f32, s: u8, x: f32, y: f32) -> Wing
     requires { ⌜ s < 255 ⌝ }
     ensures { λ r. ⌜ Winged smallest m0 m1 s x y r ⌝ }
 {
-    let p0 = standing(m0);
-    let p1 = standing(m1);
+    let p0 = or_nan(m0);
+    let p1 = or_nan(m1);
     let low = best_of(p0 + x, p1 + y, s);
     let high = best_of(p0 + y, p1 + x, s);
     Wing { low, high }

@@ -1,10 +1,10 @@
--- `branches::largest::signed`: a coded bit below 1 is 0. Assumes nothing.
+-- `butterflies::largest::signed`: a coded bit below 1 is 0. Assumes nothing.
 use native.Mathlib.Omega.{arith}
 use borrow.Author.Tests.{eq-eqb, ne-eqb}
 use lib.Dec.{eqb}
 use Rattle.best_path.proofs.Candidates.{where-true, where-false}
-use Rattle.branches.proofs.largest.signed.Statement.{statement}
-use Rattle.branches.proofs.largest.signed.Tie as tie
+use Rattle.butterflies.proofs.largest.signed.Statement.{statement}
+use Rattle.butterflies.proofs.largest.signed.Tie as tie
 
 returns : tie.Need-returns
 returns c = where-true (eqb (c .before .args .coded) 0) _ _ (eq-eqb (c .before .args .coded) 0 (omega arith))
