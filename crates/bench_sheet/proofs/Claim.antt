@@ -13,11 +13,11 @@ use Rattle.trellis.specs.State.{nextState}
 use Rattle.varicode.specs.Reader.{lettersFrom}
 use Rattle.varicode.specs.Writer.{streamFrom}
 use Rattle.varicode_words.specs.Word.{wordOf, bitsOf, decodeOf}
-use Rattle.bench_sheet.specs.Sheet.{Line, reads, AllHold, none, more, sheet}
+use Rattle.bench_sheet.specs.Sheet.{SheetLine, reads, AllHold, none, more, sheet}
 use Rattle.bench_sheet.proofs.Tested.{holds}
 
 -- the line at a place, counted from 0
-abbrev lineAt : ℕ → Line
+abbrev lineAt : ℕ → SheetLine
 lineAt n = getD sheet n (reads [] [])
 
 pub claim : AllHold sheet

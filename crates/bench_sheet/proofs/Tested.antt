@@ -14,14 +14,14 @@ use Rattle.trellis.specs.Keep.{codedLength}
 use Rattle.varicode_words.proofs.Table.{same, same-equal}
 use Rattle.varicode.specs.Reader.{nothingHeard, lettersFrom}
 use Rattle.varicode.specs.Writer.{byte, streamFrom}
-use Rattle.bench_sheet.specs.Sheet.{Line, coded, lengths, decodes, scores, ties, writes, reads, Holds}
+use Rattle.bench_sheet.specs.Sheet.{SheetLine, coded, lengths, decodes, scores, ties, writes, reads, Holds}
 
 -- lists that the test finds the same are equal
 equal : (xs ys : List ℕ) → same xs ys ≡ true → xs ≡ ys
 equal xs ys e = same-equal xs ys (subst T (sym e) tt)
 
 -- what `Holds` says, as a test that comes to true; a score is one number, and is compared as it is
-abbrev pub Passes : Line → Type 0
+abbrev pub Passes : SheetLine → Type 0
 Passes (coded code rate info bits) = same (codeword (codeOf code) (patternOf code rate) info) bits ≡ true
 Passes (lengths code count atRates) =
     same (map (λ (rate : ℕ). codedLength (patternOf code rate) (stepsOf (codeOf code) count)) (0 ∷ 1 ∷ 2 ∷ 3 ∷ 4 ∷ [])) atRates ≡ true
@@ -32,7 +32,7 @@ Passes (ties code rate count whole u v) =
 Passes (writes text bits) = same (streamFrom true (map byte text)) bits ≡ true
 Passes (reads bits text) = same (lettersFrom nothingHeard bits) text ≡ true
 
-pub holds : (line : Line) → Passes line → Holds line
+pub holds : (line : SheetLine) → Passes line → Holds line
 holds (coded code rate info bits) e = equal _ bits e
 holds (lengths code count atRates) e = equal _ atRates e
 holds (decodes code rate heard bits) e = equal _ bits e

@@ -18,16 +18,16 @@ use Rattle.varicode.specs.Writer.{byte, streamFrom}
 -- a line: the coded bits of an info word at a rate; the coded lengths of an info count at the five rates; the word, and
 -- the score, that readings are decoded to; two words that score the same; the bits that a fresh writer puts for a text;
 -- the characters that a fresh reader takes from bits
-pub data Line : Type 0 where
-  coded : (code rate : ℕ) (info bits : List ℕ) → Line
-  lengths : (code count : ℕ) (atRates : List ℕ) → Line
-  decodes : (code rate : ℕ) (heard : List Float) (bits : List ℕ) → Line
-  scores : (code rate count : ℕ) (heard : List Float) (is : Float) → Line
-  ties : (code rate count : ℕ) (whole : List ℤ) (u v : List ℕ) → Line
-  writes : (text bits : List ℕ) → Line
-  reads : (bits text : List ℕ) → Line
+pub data SheetLine : Type 0 where
+  coded : (code rate : ℕ) (info bits : List ℕ) → SheetLine
+  lengths : (code count : ℕ) (atRates : List ℕ) → SheetLine
+  decodes : (code rate : ℕ) (heard : List Float) (bits : List ℕ) → SheetLine
+  scores : (code rate count : ℕ) (heard : List Float) (is : Float) → SheetLine
+  ties : (code rate count : ℕ) (whole : List ℤ) (u v : List ℕ) → SheetLine
+  writes : (text bits : List ℕ) → SheetLine
+  reads : (bits text : List ℕ) → SheetLine
 
-abbrev pub Holds : Line → Type 0
+abbrev pub Holds : SheetLine → Type 0
 Holds (coded code rate info bits) = codeword (codeOf code) (patternOf code rate) info ≡ bits
 Holds (lengths code count atRates) =
     map (λ (rate : ℕ). codedLength (patternOf code rate) (stepsOf (codeOf code) count)) (0 ∷ 1 ∷ 2 ∷ 3 ∷ 4 ∷ [])
@@ -41,9 +41,9 @@ Holds (writes text bits) = streamFrom true (map byte text) ≡ bits
 Holds (reads bits text) = lettersFrom nothingHeard bits ≡ text
 
 -- every line of a list holds
-pub data AllHold : List Line → Type 0 where
+pub data AllHold : List SheetLine → Type 0 where
   none : AllHold []
-  more : {line : Line} {lines : List Line} → Holds line → AllHold lines → AllHold (line ∷ lines)
+  more : {line : SheetLine} {lines : List SheetLine} → Holds line → AllHold lines → AllHold (line ∷ lines)
 
 -- 1.0 and -1.0 by their bits
 abbrev one : Float
@@ -69,7 +69,7 @@ h = 104
 abbrev i : ℕ
 i = 105
 
-abbrev pub sheet : List Line
+abbrev pub sheet : List SheetLine
 sheet =
     coded k5 0 (1 ∷ []) (1 ∷ 1 ∷ 0 ∷ 0 ∷ 1 ∷ 0 ∷ 0 ∷ 1 ∷ 1 ∷ 1 ∷ [])
     ∷ coded k5 2 (1 ∷ []) (1 ∷ 1 ∷ 0 ∷ 0 ∷ 0 ∷ 1 ∷ 1 ∷ [])

@@ -15,7 +15,7 @@ use Rattle.trellis.specs.State.{window, parityOf}
 use Rattle.trellis.proofs.Ends.{turned-by-state0, turned-by-state1, turned-by-input0, turned-by-input1}
 use Rattle.trellis.proofs.States.{states-two-halves}
 use Rattle.best_path.specs.Metric.{Metric}
-use Rattle.best_path.specs.Post.{LedTo}
+use Rattle.best_path.specs.Inner.{LedTo}
 use Rattle.best_path.specs.Step.{Cell, unreached, relaxed, best}
 
 parity-bit : (taps w : ℕ) → parityOf taps w < 2

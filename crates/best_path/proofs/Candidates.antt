@@ -4,7 +4,7 @@ use mathlib.Core.Bool.{Bool, true, false, cond, _||_}
 use mathlib.Core.Path.{_≡_, refl, sym, ap, _∙_}
 use Prim.Native.Nat.{ℕ, _+_}
 use Rattle.best_path.specs.Metric.{Metric}
-use Rattle.best_path.specs.Post.{LedTo}
+use Rattle.best_path.specs.Inner.{LedTo}
 use Rattle.best_path.specs.Step.{Cell, unreached, chosen, relaxed}
 
 -- a test's two outcomes

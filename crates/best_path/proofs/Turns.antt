@@ -10,7 +10,7 @@ use Rattle.trellis.specs.Inner.{Crossed}
 use Rattle.trellis.specs.State.{window, parityOf}
 use Rattle.trellis.proofs.States.{states-two-halves}
 use Rattle.best_path.specs.Metric.{Metric}
-use Rattle.best_path.specs.Post.{LedTo}
+use Rattle.best_path.specs.Inner.{LedTo}
 use Rattle.best_path.specs.Step.{Cell, step, best}
 use Rattle.best_path.proofs.Butterfly.{crossed-bits, wing-best}
 use Rattle.best_path.proofs.Stored.{met-of, from-of, stored, stored-none, stored-turn, stored-step}

@@ -9,15 +9,15 @@ ghost use Rattle.best_path.specs.Rows.{spelled, Traceable};
 use trellis::ConvCode;
 
 // The best way into a state so far: its metric, and the state that it comes from.
-pub struct Best {
+pub struct NewState {
     pub met: f32,
     pub from: u8,
 }
 
 // What two states lead to: the new state on the input 0, and on the input 1.
 pub struct Wing {
-    pub low: Best,
-    pub high: Best,
+    pub low: NewState,
+    pub high: NewState,
 }
 
 // The way back over the rows of survivors, from the state `last` after the last step. The inputs of the

@@ -12,7 +12,7 @@ use lib.Ieee.{Float, nan}
 use lib.IntN.{ℤ}
 use lib.ListN.{length, take}
 use lib.Seq.{take-at}
-use Rattle.correlation.proofs.Counts.{length-word}
+use Rattle.correlation.proofs.Lengths.{length-word}
 use Rattle.f32s.specs.Single.{finite, allOfBytes}
 use Rattle.f32s.proofs.Wholes.{whole-finite}
 use Rattle.readings.specs.Decode.{word, score}

@@ -3,27 +3,27 @@
 use mathlib.Core.Path.{_≡_, sym, ap, ap₂, _∙_}
 use Prim.Native.Nat.{ℕ}
 use lib.Ieee.{Float}
-use Rattle.best_path.specs.declared.Best.{Best}
+use Rattle.best_path.specs.declared.NewState.{NewState}
 use Rattle.best_path.specs.declared.Wing.{Wing}
 use Rattle.best_path.specs.Metric.{Metric}
-use Rattle.best_path.specs.Post.{Winged}
+use Rattle.best_path.specs.Inner.{Winged}
 use Rattle.best_path.specs.Step.{Cell}
 use Rattle.butterflies.proofs.largest.butterfly.Reads as butterfly-of-sums
 use Rattle.butterflies.proofs.largest.signed.Reads as signed
 use Rattle.butterflies.proofs.smallest.butterfly.Reads as butterfly-of-costs
 use Rattle.butterflies.proofs.smallest.smaller.Reads as smaller
 
-abbrev bestOf : Cell Float → Best
-bestOf c = record { met = c .met; from = c .from }
+abbrev newState : Cell Float → NewState
+newState c = record { met = c .met; from = c .from }
 
-abbrev wingOf : Best → Best → Wing
+abbrev wingOf : NewState → NewState → Wing
 wingOf low high = record { low = low; high = high }
 
 wings-once :
     (op : Metric Float Float) (m0 m1 : Float) (s : ℕ) (x y : Float) (r r' : Wing) →
     Winged op m0 m1 s x y r → Winged op m0 m1 s x y r' → r ≡ r'
 wings-once op m0 m1 s x y r r' p q =
-    ap₂ wingOf (ap bestOf (p .low ∙ sym (q .low))) (ap bestOf (p .high ∙ sym (q .high)))
+    ap₂ wingOf (ap newState (p .low ∙ sym (q .low))) (ap newState (p .high ∙ sym (q .high)))
 
 pub butterfly-of-sums-once :
     (κs m0 m1 s x y : _) (r r' : Wing) →

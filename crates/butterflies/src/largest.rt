@@ -4,10 +4,10 @@ ghost use mathlib.Core.Path.{_≡_};
 ghost use Prim.Native.Nat.{_+_, _<_};
 ghost use lib.Dec.{eqb};
 ghost use lib.Ieee.{nan, neg, lt};
-ghost use Rattle.best_path.specs.Post.{cellOf, Winged};
+ghost use Rattle.best_path.specs.Inner.{cellOf, Winged};
 ghost use Rattle.best_path.specs.Step.{unreached, chosen};
 ghost use Rattle.butterflies.specs.Largest.{largest};
-use best_path::Best;
+use best_path::NewState;
 use best_path::Wing;
 
 // f32::MIN / 2: at or below it a state was not reached.
@@ -37,7 +37,7 @@ fn from_larger(z: f32, x: f32, s: u8) -> u8
 }
 
 // The best way into a state: the candidate x0 comes from the state s, x1 from s + 1.
-fn best_of(x0: f32, x1: f32, s: u8) -> Best
+fn best_of(x0: f32, x1: f32, s: u8) -> NewState
     requires { ⌜ s < 255 ⌝ }
     ensures { λ r. ⌜ cellOf r ≡ chosen largest (chosen largest (unreached largest) x0 s) x1 (s + 1) ⌝ }
 {
@@ -45,9 +45,9 @@ fn best_of(x0: f32, x1: f32, s: u8) -> Best
     let met = larger(z, x1);
     let from = from_larger(z, x1, s);
     if MARK < met {
-        return Best { met, from };
+        return NewState { met, from };
     }
-    Best { met, from: 0 }
+    NewState { met, from: 0 }
 }
 
 // The states s and s + 1, of metrics m0 and m1. On the input 0 their branches bring x and y, on the

@@ -3,10 +3,10 @@ ghost use mathlib.Core.Bool.{cond};
 ghost use mathlib.Core.Path.{_≡_};
 ghost use Prim.Native.Nat.{_+_, _<_};
 ghost use lib.Ieee.{nan, lt};
-ghost use Rattle.best_path.specs.Post.{cellOf, Winged};
+ghost use Rattle.best_path.specs.Inner.{cellOf, Winged};
 ghost use Rattle.best_path.specs.Step.{unreached, chosen};
 ghost use Rattle.butterflies.specs.Smallest.{smallest};
-use best_path::Best;
+use best_path::NewState;
 use best_path::Wing;
 
 // f32::MAX / 2: at or above it a state was not reached.
@@ -36,7 +36,7 @@ fn from_smaller(z: f32, x: f32, s: u8) -> u8
 }
 
 // The best way into a state: the candidate x0 comes from the state s, x1 from s + 1.
-fn best_of(x0: f32, x1: f32, s: u8) -> Best
+fn best_of(x0: f32, x1: f32, s: u8) -> NewState
     requires { ⌜ s < 255 ⌝ }
     ensures { λ r. ⌜ cellOf r ≡ chosen smallest (chosen smallest (unreached smallest) x0 s) x1 (s + 1) ⌝ }
 {
@@ -44,9 +44,9 @@ fn best_of(x0: f32, x1: f32, s: u8) -> Best
     let met = smaller(z, x1);
     let from = from_smaller(z, x1, s);
     if met < MARK {
-        return Best { met, from };
+        return NewState { met, from };
     }
-    Best { met, from: 0 }
+    NewState { met, from: 0 }
 }
 
 // The states s and s + 1, of metrics m0 and m1. On the input 0 their branches cost x and y, on the

@@ -6,7 +6,7 @@ use mathlib.Core.Path.{_≡_, refl}
 use Prim.Native.Nat.{ℕ, _+_, _*_, _≤_, _<_}
 use lib.Dec.{eqb}
 use lib.ListN.{length, getD, set}
-use Rattle.best_path.specs.Post.{LedTo}
+use Rattle.best_path.specs.Inner.{LedTo}
 use Rattle.best_path.specs.Step.{Cell}
 use Rattle.best_path.proofs.Turns.{Paired, paired-starts, paired-mets, paired-froms, paired-goes-on}
 use Rattle.trellis.specs.declared.ConvCode.{ConvCode}

@@ -1,7 +1,7 @@
 -- Turn: the turns of the encoder's loop. Selected: what the code and rate numbers select. Checks: the refusals in their
--- order. Counts: an accepted count is how many bits are written. Unique: each contract allows one outcome at most.
+-- order. Lengths: an accepted count is how many bits are written. Unique: each contract allows one outcome at most.
 pub mod Turn
 pub mod Selected
 pub mod Checks
-pub mod Counts
+pub mod Lengths
 pub mod Unique

@@ -9,7 +9,7 @@ use Rattle.trellis.specs.declared.Selected.{Selected}
 use Rattle.trellis.specs.Choice.{codeOf, patternOf, keepOf}
 use Rattle.trellis.specs.Keep.{Keep, codedLength}
 use Rattle.trellis.specs.Inner.{Chooses, Narrow, Rows}
-use Rattle.trellis.proofs.Chosen.{code-narrow, rate-held, half-length}
+use Rattle.trellis.proofs.Chosen.{code-narrow, rate-represented, half-length}
 use Rattle.trellis.proofs.Sent.{codeword-sent}
 use Rattle.encoder.specs.Encode.{codedLengthOf, encodeWord, plainWord}
 use Rattle.encoder.specs.Inner.{Ready, ReadyAt, Sends}
@@ -25,10 +25,10 @@ module _ {code rate : ℕ} {chosen : Selected} (is : Chooses code rate chosen) w
   chosen-narrow = rw (is .taps) (code-narrow code)
 
   pub chosen-rows : Rows (chosen .keep)
-  chosen-rows = rw (is .rows) (rate-held code rate .rows)
+  chosen-rows = rw (is .rows) (rate-represented code rate .rows)
 
   pub keep-chosen : keepOf (chosen .keep) ≡ patternOf code rate
-  keep-chosen = ap keepOf (is .rows) ∙ rate-held code rate .back
+  keep-chosen = ap keepOf (is .rows) ∙ rate-represented code rate .back
 
   -- the tail that the code's width adds
   pub length-chosen :

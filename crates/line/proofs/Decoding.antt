@@ -12,7 +12,7 @@ use lib.Ieee.{Float}
 use lib.ListN.{length, take, drop, replicate}
 use lib.Pow.{pow-mono}
 use lib.Seq.{take-at}
-use Rattle.correlation.proofs.Counts.{length-word}
+use Rattle.correlation.proofs.Lengths.{length-word}
 use Rattle.encoder.specs.Promise.{Decides}
 use Rattle.encoder.proofs.Checks.{choice-refused, choice-passes, choice-passes-wider, choice-few}
 use Rattle.f32s.specs.Single.{allOfBytes}

@@ -9,7 +9,7 @@ use lib.Dec.{ltb}
 use lib.Ieee.{Float}
 use lib.ListN.{length, take}
 use lib.Seq.{take-all, length-take-le}
-use Rattle.correlation.proofs.Counts.{length-word, length-filled}
+use Rattle.correlation.proofs.Lengths.{length-word, length-filled}
 use Rattle.encoder.specs.Encode.{codedLengthOf}
 use Rattle.encoder.specs.Promise.{Decides}
 use Rattle.encoder.proofs.Checks.{choice-refused, choice-passes, checked-past}

@@ -73,7 +73,7 @@ fn step_of(
 }
 
 // The reading of a place: 0.0 where it was deleted or is missing.
-fn read(column: u8, readings: &[f32], at: usize) -> f32
+fn value_at(column: u8, readings: &[f32], at: usize) -> f32
     ensures { λ r. ⌜ r ≡ valueOf (filled (eqb column 1) (now (readings .entry)) at) ⌝ }
 {
     if column == 1 {
@@ -118,9 +118,9 @@ pub fn forward(
     let mut at = 0;
     let mut to = 0;
     for t in 0..steps {
-        let a = read(row0[column], readings, at);
+        let a = value_at(row0[column], readings, at);
         at = after(row0[column], at);
-        let b = read(row1[column], readings, at);
+        let b = value_at(row1[column], readings, at);
         at = after(row1[column], at);
         step_of(code, half, &c0, &c1, a, b, &pm, &mut next, &mut rows[to..]);
         pm = next;

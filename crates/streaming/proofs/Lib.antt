@@ -1,5 +1,5 @@
 -- Kept: one entry of the history at a time. Behind: the way back. Normal: normalisation, one metric at a time. Tables: what K5
--- sends. OneSymbol: the answers of a symbol. Running: a decoder fed a list. Flushing: a flush, and its answers. Counts: a
+-- sends. OneSymbol: the answers of a symbol. Running: a decoder fed a list. Flushing: a flush, and its answers. Lengths: a
 -- flush's count is how many bits it writes. InPlace: what the walks of the entries in place share.
 -- Of states reached from a fresh one: Counters: what the counters come to, and how many bits a flush gives. Way: from a state
 -- to any other. Least: the least metric. Plain: one step without normalisation. Spread: several, and how far apart the
@@ -13,7 +13,7 @@ pub mod Tables
 pub mod OneSymbol
 pub mod Running
 pub mod Flushing
-pub mod Counts
+pub mod Lengths
 pub mod InPlace
 pub mod Counters
 pub mod Way

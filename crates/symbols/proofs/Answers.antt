@@ -22,7 +22,7 @@ use Rattle.trellis.specs.Choice.{k5, codeOf}
 use Rattle.symbols.specs.Inner.{Finds, Fills}
 use Rattle.symbols.specs.Promise.{DecodesSymbols, DecodesHard}
 use Rattle.symbols.specs.Said.{examined, roomFor, symbolsIn, softSaid, hardSaid, phasorsOf}
-use Rattle.symbols.proofs.Counts.{length-word, length-survivors}
+use Rattle.symbols.proofs.Lengths.{length-word, length-survivors}
 use Rattle.symbols.proofs.Hard.{length-phasors, none-beyond}
 use Rattle.symbols.proofs.Selected.{chosen-k5}
 

@@ -1,5 +1,5 @@
 -- Prices: a coded pair's cost among the four. Turn: the turns of a step's loop. Steps: symbols one after the other. Least: the
--- first least state. Hard: the phasors of hard bits. Word: the way back. Counts: an accepted count is how many bits are written.
+-- first least state. Hard: the phasors of hard bits. Word: the way back. Lengths: an accepted count is how many bits are written.
 -- Selected: the code that the entries run. Answers: the refusals in their order. Bounds: what a cost and a metric can come to.
 -- Unique: each contract allows one outcome at most.
 pub mod Prices
@@ -8,7 +8,7 @@ pub mod Steps
 pub mod Least
 pub mod Hard
 pub mod Word
-pub mod Counts
+pub mod Lengths
 pub mod Selected
 pub mod Answers
 pub mod Bounds

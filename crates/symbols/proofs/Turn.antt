@@ -7,7 +7,7 @@ use native.Mathlib.Omega.{arith}
 use lib.Ieee.{Float, nan}
 use lib.ListN.{length, getD, set, drop-of-length-le}
 use Rattle.best_path.specs.declared.Wing.{Wing}
-use Rattle.best_path.specs.Post.{Winged}
+use Rattle.best_path.specs.Inner.{Winged}
 use Rattle.best_path.proofs.Turns.{Paired, paired-starts, paired-mets, paired-froms, paired-goes-on}
 use Rattle.trellis.specs.declared.ConvCode.{ConvCode}
 use Rattle.trellis.specs.Inner.{Crossed}

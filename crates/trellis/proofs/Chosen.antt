@@ -137,7 +137,7 @@ rates-same code = coding-sound code .rates
 -- ---- keep patterns
 
 -- a keep pattern that the code's form of it holds
-pub record Held (p : Keep) : Type 0 where
+pub record Represented (p : Keep) : Type 0 where
   pub rows : Rows (heldOf p)
   pub back : keepOf (heldOf p) ≡ p
 
@@ -147,9 +147,9 @@ seven-long row = omega (arith, length-append row (replicate (7 - length row) 0))
 abbrev keep-of : List ℕ → List ℕ → Keep
 keep-of row0 row1 = record { row0 = row0; row1 = row1 }
 
-held-of : (p : Keep) → held p ≡ true → Held p
+represented : (p : Keep) → held p ≡ true → Represented p
 unfolding heldOf keepOf
-held-of p e =
+represented p e =
     let (some, rest) = both _ _ e in
     let (seven, equal) = both _ _ rest in
     let same = eqb-true (length (p .row1)) (period p) equal in
@@ -164,14 +164,14 @@ held-of p e =
       back = ap₂ keep-of (take-at (p .row0) _ (period p) refl) (take-at (p .row1) _ (period p) same);
     }
 
-pub rate-held : (code rate : ℕ) → Held (patternOf code rate)
+pub rate-represented : (code rate : ℕ) → Represented (patternOf code rate)
 unfolding patternOf
-rate-held code rate =
-    held-of (patternOf code rate) (every-at held (codingOf code .patterns) rate half (coding-sound code .patterns-held) refl)
+rate-represented code rate =
+    represented (patternOf code rate) (every-at held (codingOf code .patterns) rate half (coding-sound code .patterns-held) refl)
 
 pub rate-pattern : (code rate : ℕ) → Pattern (patternOf code rate)
 rate-pattern code rate =
-    let is = rate-held code rate in
+    let is = rate-represented code rate in
     subst Pattern (is .back) (rows-pattern (heldOf (patternOf code rate)) (is .rows))
 
 -- ---- what the arms select

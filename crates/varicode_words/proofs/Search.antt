@@ -12,7 +12,7 @@ use lib.ListN.{length, drop, drop-of-length-le}
 use lib.Seq.{drop-cons}
 use Rattle.varicode_words.specs.declared.Word.{Word}
 use Rattle.varicode_words.specs.Table.{words}
-use Rattle.varicode_words.specs.Word.{lengthOf, Written, found, decodeOf}
+use Rattle.varicode_words.specs.Word.{lengthOf, Spells, found, decodeOf}
 use Rattle.varicode_words.proofs.Facts.{word-at}
 
 -- what is found from the place i on
@@ -27,7 +27,7 @@ pub found-past : (i bits len : ℕ) → 128 ≤ i → foundFrom i bits len ≡ [
 unfolding found
 found-past i bits len h = rw (drop-of-length-le words h)
 
-module _ (i bits len : ℕ) (inside : i < 128) (r : Word) (entry : Written i r) where
+module _ (i bits len : ℕ) (inside : i < 128) (r : Word) (entry : Spells i r) where
   abbrev after : List ℕ
   after = foundFrom (i + 1) bits len
 

@@ -33,7 +33,7 @@ sound (b ∷ []) = eqb b 1
 sound (b ∷ c ∷ bs) = eqb b 1 && cond (eqb c 0) (sound bs) (sound (c ∷ bs))
 
 -- what `varicode_encode` answers
-pub record Written (byte : ℕ) (r : Word) : Type 0 where
+pub record Spells (byte : ℕ) (r : Word) : Type 0 where
   pub bits : r .bits ≡ wordOf byte
   pub len : r .len ≡ lengthOf (wordOf byte)
 

@@ -1,7 +1,7 @@
 // Varicode: the word of each byte, and the byte of each word, by Martinez's table of 1998.
 ghost use mathlib.Core.Path.{_≡_};
 ghost use Prim.Native.Nat.{_<_};
-ghost use Rattle.varicode_words.specs.Word.{Written, letterSaid, decodeOf};
+ghost use Rattle.varicode_words.specs.Word.{Spells, letterSaid, decodeOf};
 
 // A word: its bits, the last one lowest, and how many there are.
 pub struct Word {
@@ -282,7 +282,7 @@ const LENGTHS: [u8; 128] = [
 // What stands in both tables at a place.
 fn word_at(i: usize) -> Word
     requires { ⌜ i < 128 ⌝ }
-    ensures { λ r. ⌜ Written i r ⌝ }
+    ensures { λ r. ⌜ Spells i r ⌝ }
 {
     let bits = WORDS[i];
     let len = LENGTHS[i];
@@ -291,7 +291,7 @@ fn word_at(i: usize) -> Word
 
 // The word of a byte; bytes 128 to 255 have byte 0's.
 pub fn varicode_encode(byte: u8) -> Word
-    ensures { λ r. ⌜ Written byte r ⌝ }
+    ensures { λ r. ⌜ Spells byte r ⌝ }
 {
     if byte < 128 {
         word_at(byte as usize)

@@ -26,13 +26,13 @@ abbrev Turn : Type 0
 Turn = tie.In-loop Inv-loop μ-loop
 
 abbrev First : Type 0
-First = tie.After-read Inv-loop μ-loop
+First = tie.After-value-at Inv-loop μ-loop
 
 abbrev Middle : Type 0
 Middle = tie.After-after Inv-loop μ-loop
 
 abbrev Second : Type 0
-Second = tie.After-read2 Inv-loop μ-loop
+Second = tie.After-value-at2 Inv-loop μ-loop
 
 abbrev End : Type 0
 End = tie.After-after2 Inv-loop μ-loop
@@ -52,8 +52,8 @@ loop-holds c =
     let crossed = coded .sent-by-even .ensures .crossed in
     forwarded-starts (start .pre) crossed
 
-array-read-read : tie.Need-array-read-read Inv-loop μ-loop
-array-read-read c = column-within (c .before .loop .inv)
+array-read-value-at : tie.Need-array-read-value-at Inv-loop μ-loop
+array-read-value-at c = column-within (c .before .loop .inv)
 
 array-read-after : tie.Need-array-read-after Inv-loop μ-loop
 array-read-after c =
@@ -66,8 +66,8 @@ after-requires c κs =
     let head : Head = search in
     omega (arith, reads-few (head .loop .inv) (turn .loop-test .taken))
 
-array-read-read-2 : tie.Need-array-read-read-2 Inv-loop μ-loop
-array-read-read-2 c =
+array-read-value-at-2 : tie.Need-array-read-value-at-2 Inv-loop μ-loop
+array-read-value-at-2 c =
     let head : Head = search in
     column-within (head .loop .inv)
 
@@ -84,7 +84,7 @@ after-requires-2 c κs =
     let head : Head = search in
     omega (
       arith,
-      middle-few (head .loop .inv) (turn .loop-test .taken) (first .read .ensures) (middle .after .ensures),
+      middle-few (head .loop .inv) (turn .loop-test .taken) (first .value-at .ensures) (middle .after .ensures),
     )
 
 sub-step-of : tie.Need-sub-step-of Inv-loop μ-loop
@@ -135,8 +135,8 @@ loop-again c =
     let first : First = search in
     let turn : Turn = search in
     let head : Head = search in
-    forwarded-goes-on (head .loop .inv) (turn .loop-test .taken) (first .read .ensures) (middle .after .ensures)
-    (second .read2 .ensures) (end .after2 .ensures) (selected .step-of .ensures) (omega arith) (c .next-column .ensures)
+    forwarded-goes-on (head .loop .inv) (turn .loop-test .taken) (first .value-at .ensures) (middle .after .ensures)
+    (second .value-at2 .ensures) (end .after2 .ensures) (selected .step-of .ensures) (omega arith) (c .next-column .ensures)
 
 same-length : tie.Need-same-length Inv-loop μ-loop
 same-length c = rows-sized (c .before .loop .inv)
@@ -149,8 +149,8 @@ forward-spec =
     tie.close
     (tie.spec Inv-loop μ-loop
     sent-by-even-requires (search needs) (search needs) loop-holds
-    array-read-read (search needs) array-read-after after-requires
-    array-read-read-2 (search needs) array-read-after-2 after-requires-2
+    array-read-value-at (search needs) array-read-after after-requires
+    array-read-value-at-2 (search needs) array-read-after-2 after-requires-2
     sub-step-of part-step-of-start (search needs) step-of-requires
     add-to next-column-requires add-t (search needs) loop-again
     (search needs) same-length returns)

@@ -3,7 +3,7 @@
 use mathlib.Core.Path.{_≡_}
 use Prim.Native.Nat.{ℕ, _+_}
 use lib.Ieee.{Float}
-use Rattle.best_path.specs.declared.Best.{Best}
+use Rattle.best_path.specs.declared.NewState.{NewState}
 use Rattle.best_path.specs.declared.Wing.{Wing}
 use Rattle.best_path.specs.Metric.{Metric}
 use Rattle.best_path.specs.Step.{Cell, unreached, relaxed}
@@ -14,7 +14,7 @@ pub record LedTo {M B : Type 0} (op : Metric M B) (m0 m1 : M) (s : ℕ) (x y : B
   pub high : on1 ≡ relaxed op (relaxed op (unreached op) m0 y s) m1 x (s + 1)
 
 -- what is known of a new state
-abbrev pub cellOf : Best → Cell Float
+abbrev pub cellOf : NewState → Cell Float
 cellOf z = record { met = z .met; from = z .from }
 
 -- what such a pair leads to, in f32

@@ -1,10 +1,10 @@
--- `readings::forward_pass::read`: the three kinds of place. Assumes nothing.
+-- `readings::forward_pass::value_at`: the three kinds of place. Assumes nothing.
 use borrow.Author.Needs.{needs}
 use lib.Ieee.{nan}
 use Rattle.f32s.specs.Single.{zero32}
 use Rattle.trellis.proofs.Places.{reads-received, reads-missing, reads-deleted}
-use Rattle.readings.proofs.forward_pass.read.Statement.{statement}
-use Rattle.readings.proofs.forward_pass.read.Tie as tie
+use Rattle.readings.proofs.forward_pass.value_at.Statement.{statement}
+use Rattle.readings.proofs.forward_pass.value_at.Tie as tie
 
 returns : tie.Need-returns
 returns c =
@@ -24,5 +24,5 @@ returns-3 c =
     let start : tie.Start = search in
     reads-deleted zero32 (start .args .column) (start .args .readings .now) (start .args .at) (c .if1 .left)
 
-pub read-spec : {M : Type 1} → statement M
-read-spec = tie.close (tie.spec (search needs) (search needs) returns returns-2 returns-3)
+pub value-at-spec : {M : Type 1} → statement M
+value-at-spec = tie.close (tie.spec (search needs) (search needs) returns returns-2 returns-3)
