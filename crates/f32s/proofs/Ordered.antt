@@ -45,6 +45,25 @@ cross-trans s t r a b c p q u P Q U h k =
     rw (mul-right-comm b p u, mul-right-comm c p q) (below-scale t r (b * u) (c * q) p P ∙ k) in
     sym (below-scale s r (a * u) (c * p) q Q) ∙ below-trans s t r (a * u * q) (b * p * u) (c * p * q) first second
 
+-- what is not below the second of two is above the first
+below-split : (s t r : Bool) (a b c : ℕ) → below s a t b ≡ true → below r c t b ≡ false → below s a r c ≡ true
+below-split false false false a b c h k = lt-ltb a c (omega (arith, ltb-true, ltb-false))
+below-split false false true a b c h k = absurd (omega (arith, ltb-true, ltb-false))
+below-split false true r a b c h k = cc
+below-split true false false a b c h k = lt-ltb 0 (a + c) (omega (arith, ltb-true, ltb-false))
+below-split true false true a b c h k = lt-ltb c a (omega (arith, ltb-true, ltb-false))
+below-split true true false a b c h k = lt-ltb 0 (a + c) (omega (arith, ltb-true))
+below-split true true true a b c h k = lt-ltb c a (omega (arith, ltb-true, ltb-false))
+
+cross-split :
+    (s t r : Bool) (a b c p q u : ℕ) → 0 < p → 0 < q → 0 < u → below s (a * q) t (b * p) ≡ true → below r (c * q) t (b * u) ≡ false →
+    below s (a * u) r (c * p) ≡ true
+cross-split s t r a b c p q u P Q U h k =
+    let first : below s (a * u * q) t (b * p * u) ≡ true = rw (mul-right-comm a u q) (below-scale s t (a * q) (b * p) u U ∙ h) in
+    let second : below r (c * p * q) t (b * p * u) ≡ false =
+    rw (mul-right-comm b p u, mul-right-comm c p q) (below-scale r t (c * q) (b * u) p P ∙ k) in
+    sym (below-scale s r (a * u) (c * p) q Q) ∙ below-split s t r (a * u * q) (b * p * u) (c * p * q) first second
+
 below-irrefl : (s : Bool) (a : ℕ) → below s a s a ≡ false
 below-irrefl false a = le-ltb a a (omega arith)
 below-irrefl true a = le-ltb a a (omega arith)
@@ -83,14 +102,14 @@ not-below true true a b = rw (eqb-sym b a) (not-ltb b a)
 -- ---- floats
 
 -- an infinity has nothing beyond it, so it stands between no two values
-none-below : (x : Float) → lt x (inf true) ≡ false
+pub none-below : (x : Float) → lt x (inf true) ≡ false
 unfolding lt
 none-below nan = refl
 none-below (inf true) = refl
 none-below (inf false) = refl
 none-below (fin s m e) = refl
 
-none-above : (x : Float) → lt (inf false) x ≡ false
+pub none-above : (x : Float) → lt (inf false) x ≡ false
 unfolding lt
 none-above nan = refl
 none-above (inf s) = refl
@@ -116,6 +135,47 @@ lt-irrefl nan = refl
 lt-irrefl (inf true) = refl
 lt-irrefl (inf false) = refl
 lt-irrefl (fin s m e) = below-irrefl s (m * up e * down e)
+
+-- a number that is not below the second of two is above the first
+pub lt-split : (x y z : Float) → isNan z ≡ false → lt x y ≡ true → lt z y ≡ false → lt x z ≡ true
+unfolding lt isNan
+lt-split x (inf true) z p h k = cc (none-below x)
+lt-split nan nan z p h k = cc
+lt-split (inf s) nan z p h k = cc
+lt-split (fin s m e) nan z p h k = cc
+lt-split nan (inf false) z p h k = cc
+lt-split (inf s) (inf false) nan p h k = cc
+lt-split (inf s) (inf false) (inf true) p h k = cc
+lt-split (inf s) (inf false) (inf false) p h k = h
+lt-split (inf s) (inf false) (fin r o c) p h k = cc
+lt-split (fin s m e) (inf false) nan p h k = cc
+lt-split (fin s m e) (inf false) (inf true) p h k = cc
+lt-split (fin s m e) (inf false) (inf false) p h k = refl
+lt-split (fin s m e) (inf false) (fin r o c) p h k = cc
+lt-split nan (fin t n d) z p h k = cc
+lt-split (inf s) (fin t n d) nan p h k = cc
+lt-split (inf s) (fin t n d) (inf r) p h k = rw (h, k)
+lt-split (inf s) (fin t n d) (fin r o c) p h k = h
+lt-split (fin s m e) (fin t n d) nan p h k = cc
+lt-split (fin s m e) (fin t n d) (inf r) p h k = rw k
+lt-split (fin s m e) (fin t n d) (fin r o c) p h k =
+    cross-split s t r (m * up e) (n * up d) (o * up c) (down e) (down d) (down c) (down-pos e) (down-pos d) (down-pos c) h k
+
+-- what is not below the larger of two is not below the smaller either
+pub not-lt-smaller : (x y z : Float) → lt y z ≡ true → lt x z ≡ false → lt x y ≡ false
+not-lt-smaller x y z h k = go (lt x y) refl
+  where
+    go : (t : Bool) → lt x y ≡ t → t ≡ false
+    go true e = sym (lt-trans x y z e h) ∙ k
+    go false e = refl
+
+-- not to be below is transitive, with a number between
+pub not-lt-trans : (x y z : Float) → isNan y ≡ false → lt x y ≡ false → lt y z ≡ false → lt x z ≡ false
+not-lt-trans x y z p h k = go (lt x z) refl
+  where
+    go : (t : Bool) → lt x z ≡ t → t ≡ false
+    go true e = sym (lt-split x z y p e k) ∙ h
+    go false e = refl
 
 -- Where neither is a NaN, `≤` is `<` the other way round, denied.
 pub le-is-not-lt : (x y : Float) → isNan x ≡ false → isNan y ≡ false → le y x ≡ not (lt x y)

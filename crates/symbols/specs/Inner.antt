@@ -1,21 +1,22 @@
 -- What the inner functions ask and ensure. Definitions only.
-use mathlib.Core.Bool.{cond}
+use mathlib.Core.Bool.{true, false, cond}
 use mathlib.Core.List.{List, _++_, map}
 use mathlib.Core.Path.{_≡_}
-use Prim.Native.Nat.{ℕ, _*_, _^_, _≤_}
+use Prim.Native.Nat.{ℕ, zero, suc, _+_, _*_, _^_, _≤_, _<_}
 use lib.Dec.{eqb}
-use lib.Ieee.{Float, nan}
+use lib.Ieee.{Float, nan, inf, lt}
 use lib.ListN.{length, getD, drop}
 use Rattle.best_path.specs.Step.{Cell, step}
 use Rattle.refusal.specs.Lent.{Lent}
 use Rattle.refusal.specs.Limits.{most}
 use Rattle.trellis.specs.declared.ConvCode.{ConvCode}
 use Rattle.trellis.specs.Inner.{Halved, Crossed}
-use Rattle.butterflies.specs.Smallest.{smallest}
+use Rattle.butterflies.specs.Smallest.{mark, smallest}
 use Rattle.symbols.specs.Costs.{cost, costs, phasorOf}
 use Rattle.symbols.specs.Decode.{firstLeast, mets, word, filledRows}
 use Rattle.symbols.specs.Said.{symbolsIn, phasorsOf}
 use Rattle.symbols.specs.declared.phasors.Prices.{Prices}
+use Rattle.symbols.specs.declared.forward_pass.Placed.{Placed}
 
 -- the step is for any code of 16 states, and this is half of them
 abbrev pub half : ℕ
@@ -56,6 +57,25 @@ pub record Selects
     (code : ConvCode) (pm : List Float) (re im : Float) (next : Lent Float) (row : Lent ℕ) : Type 0 where
   pub mets : next .left ≡ newMets code pm re im
   pub froms : row .left ≡ newFroms code pm re im ++ drop (2 ^ code .width) (row .given)
+
+-- ---- the first least state
+
+-- A metric as states are compared by it. A NaN is never smaller than another: it stands as the largest, and at state 0,
+-- which only a smaller one takes over from, as the least.
+unfoldable pub compared : ℕ → Float → Float
+compared zero m = cond (lt (inf true) m) m (inf true)
+compared (suc s) m = cond (lt m (inf false)) m (inf false)
+
+abbrev pub comparedIn : List Float → ℕ → Float
+comparedIn pm s = compared s (getD pm s mark)
+
+-- `least_of_four` and its parts: the first least of n states from lo on
+pub record LeastIn (pm : List Float) (lo n : ℕ) (r : Placed) : Type 0 where
+  pub as-compared : r .met ≡ comparedIn pm (r .state)
+  pub from-lo : lo ≤ r .state
+  pub within : r .state < lo + n
+  pub none-smaller : (s : ℕ) → lo ≤ s → s < lo + n → lt (comparedIn pm s) (r .met) ≡ false
+  pub earlier-larger : (s : ℕ) → lo ≤ s → s < r .state → lt (r .met) (comparedIn pm s) ≡ true
 
 -- ---- all symbols
 

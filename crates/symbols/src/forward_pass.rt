@@ -1,10 +1,12 @@
 // All symbols from state 0: add, compare, select, with the survivors of each kept; and the first least state. For any
 // code of 16 states.
+ghost use mathlib.Core.Bool.{cond};
 ghost use mathlib.Core.Path.{_≡_};
-ghost use Prim.Native.Nat.{_*_};
+ghost use Prim.Native.Nat.{_+_, _*_, _≤_, _<_};
+ghost use lib.Ieee.{lt};
 ghost use Rattle.refusal.specs.Lent.{lent};
 ghost use Rattle.symbols.specs.Decode.{firstLeast};
-ghost use Rattle.symbols.specs.Inner.{half, Steppable, Selects, Runnable, Runs};
+ghost use Rattle.symbols.specs.Inner.{half, Steppable, Selects, compared, LeastIn, Runnable, Runs};
 use crate::phasors::cost_of_pair;
 use crate::phasors::prices_of;
 use butterflies::smallest::MARK;
@@ -54,19 +56,64 @@ pub fn step(
     }
 }
 
-// The first of the states with the least metric.
-pub fn first_least(pm: &[f32; STATES]) -> usize
-    ensures { λ r. ⌜ r ≡ firstLeast (now (pm .entry)) (2 * half) ⌝ }
+// A metric as states are compared by it. A NaN is never smaller than another: it stands as the largest, and at
+// state 0, which only a smaller one takes over from, as the least.
+fn compared(m: f32, state: u8) -> f32
+    ensures { λ r. ⌜ r ≡ compared state m ⌝ }
+{
+    let most = f32::from_bits(0x7f80_0000);
+    if state == 0 {
+        if -most < m { m } else { -most }
+    } else {
+        if m < most { m } else { most }
+    }
+}
+
+// A state, and its metric as it is compared.
+struct Placed {
+    met: f32,
+    state: u8,
+}
+
+fn placed_at(pm: &[f32; STATES], state: u8) -> Placed
+    requires { ⌜ state < 2 * half ⌝ }
+    ensures { λ r. ⌜ LeastIn (now (pm .entry)) state 1 r ⌝ }
 {
     // Lent as a slice, the array tells its length.
     let whole = &pm[..];
-    let mut least = 0;
-    for s in 0..STATES {
-        if pm[s] < pm[least] {
-            least = s;
-        }
+    Placed {
+        met: compared(pm[state as usize], state),
+        state,
     }
-    least
+}
+
+// The first of the two, unless the second is smaller.
+fn lesser(a: Placed, b: Placed) -> Placed
+    ensures { λ r. ⌜ r ≡ cond (lt (b .met) (a .met)) b a ⌝ }
+{
+    if b.met < a.met { b } else { a }
+}
+
+// The first least of four states that follow one another.
+fn least_of_four(pm: &[f32; STATES], at: u8) -> Placed
+    requires { ⌜ at + 4 ≤ 2 * half ⌝ }
+    ensures { λ r. ⌜ LeastIn (now (pm .entry)) at 4 r ⌝ }
+{
+    let middle = at + 2;
+    let low = lesser(placed_at(pm, at), placed_at(pm, at + 1));
+    let high = lesser(placed_at(pm, middle), placed_at(pm, middle + 1));
+    lesser(low, high)
+}
+
+// The first of the states with the least metric: a tournament of neighbours, whose turns do not wait for each
+// other as they would where one state after the other is looked at.
+pub fn first_least(pm: &[f32; STATES]) -> usize
+    ensures { λ r. ⌜ r ≡ firstLeast (now (pm .entry)) (2 * half) ⌝ }
+{
+    let low = lesser(least_of_four(pm, 0), least_of_four(pm, 4));
+    let high = lesser(least_of_four(pm, 8), least_of_four(pm, 12));
+    let least = lesser(low, high);
+    least.state as usize
 }
 
 // All symbols, from state 0. The survivors of each go to a row of rows; answers the first least state.

@@ -1,34 +1,27 @@
--- `symbols::forward_pass::first_least`: the laws of a look at what is known there. Assumes nothing.
-use mathlib.Core.Logic.{⊎-elim}
-use Prim.Native.Nat.{_-_, _*_}
-use native.Mathlib.Omega.{arith}
-use Rattle.symbols.specs.Inner.{half}
-use Rattle.symbols.proofs.Least.{Looked, looked-starts, looked-moves, looked-stays, looked-ends}
+-- `symbols::forward_pass::first_least`: neighbours join, up to all states. Assumes nothing.
+use borrow.Author.Needs.{needs}
+use Rattle.symbols.proofs.Least.{ranges-join, least-is-found}
 use Rattle.symbols.proofs.forward_pass.first_least.Statement.{statement}
 use Rattle.symbols.proofs.forward_pass.first_least.Tie as tie
 
-abbrev Inv-loop : tie.InvT-loop
-Inv-loop pm least₀ s₀ least s = Looked pm least s
-
-abbrev μ-loop : tie.MeasureT-loop
-μ-loop pm least₀ s₀ least s = 2 * half - s
-
-loop-again : tie.Need-loop-again Inv-loop μ-loop
-loop-again c =
-    let turn : tie.In-loop Inv-loop μ-loop = search in
-    let head : tie.At-loop Inv-loop μ-loop = search in
-    let below = turn .loop-test .taken in
-    ⊎-elim
-    (λ came. let (test, moved) = came in looked-moves (head .loop .inv) (omega arith) below (test .taken) moved)
-    (λ came. let (test, kept) = came in looked-stays (head .loop .inv) (omega arith) below (test .left) kept)
-    (c .if1 .came)
-
-returns : tie.Need-returns Inv-loop μ-loop
-returns c = looked-ends (c .before .loop .inv) (c .loop-test .left)
+returns : tie.Need-returns
+returns c =
+    let all : tie.After-lesser3 = search in
+    let high : tie.After-lesser2 = search in
+    let fourth : tie.After-least-of-four4 = search in
+    let third : tie.After-least-of-four3 = search in
+    let low : tie.After-lesser = search in
+    let second : tie.After-least-of-four2 = search in
+    let first : tie.After-least-of-four = search in
+    least-is-found
+    (ranges-join
+    (ranges-join (first .least-of-four .ensures) (second .least-of-four2 .ensures) (low .lesser .ensures))
+    (ranges-join (third .least-of-four3 .ensures) (fourth .least-of-four4 .ensures) (high .lesser2 .ensures))
+    (all .lesser3 .ensures))
 
 pub first-least-spec : {M : Type 1} → statement M
 first-least-spec =
     tie.close
-    (tie.spec Inv-loop μ-loop (λ c. looked-starts)
-    (λ c. omega arith) (λ c. omega arith) (λ c. omega arith) (λ c. omega arith)
-    (λ c. omega arith) (λ c. omega arith) loop-again returns)
+    (tie.spec
+    (search needs) (search needs) (search needs) (search needs)
+    (search needs) (search needs) (search needs) (search needs) returns)
