@@ -29,8 +29,7 @@ loop-holds : tie.Need-loop-holds Inv-loop μ-loop
 loop-holds c =
     let coded : tie.After-sent-by-even Inv-loop μ-loop = search in
     let start : tie.Start Inv-loop μ-loop = search in
-    let (crossed, rest) = coded .sent-by-even .ensures in
-    forwarded-starts (start .pre) crossed
+    forwarded-starts (start .pre) (coded .sent-by-even .ensures .crossed)
 
 shared-slice-read-step : tie.Need-shared-slice-read-step Inv-loop μ-loop
 shared-slice-read-step c =
