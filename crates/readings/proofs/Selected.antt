@@ -1,13 +1,13 @@
 -- What the code and rate numbers select is what a decoding asks. Assumes nothing.
 use mathlib.Core.List.{List}
 use mathlib.Core.Path.{_≡_, ap, ap₂, _∙_}
-use Prim.Native.Nat.{ℕ, _+_, _-_, _*_, _^_, _≤_}
+use Prim.Native.Nat.{ℕ, _-_, _*_, _^_, _≤_}
 use native.Mathlib.Nat.{mul-le-mul-right}
 use native.Mathlib.Omega.{arith}
 use lib.Ieee.{Float}
 use lib.ListN.{length}
 use lib.Pow.{pow-mono}
-use Rattle.encoder.proofs.Selected.{chosen-narrow, chosen-rows, keep-chosen, length-chosen}
+use Rattle.encoder.proofs.Selected.{chosen-rows, keep-chosen, length-chosen}
 use Rattle.encoder.specs.Encode.{codedLengthOf}
 use Rattle.refusal.specs.Lent.{Lent}
 use Rattle.refusal.specs.Limits.{most}
