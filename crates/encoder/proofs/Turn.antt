@@ -1,14 +1,13 @@
 -- The turns of the encoder's loop: what its two puts add is what the step sends. Over any code and keep pattern. Assumes
 -- nothing.
-use mathlib.Core.List.{List, [], _++_, append-assoc}
+use mathlib.Core.List.{List, _++_, append-assoc}
 use mathlib.Core.Path.{_≡_, refl, sym, ap, _∙_}
 use Prim.Native.Nat.{ℕ, suc, _+_, _%_, _≤_, _<_}
 use native.Mathlib.Nat.{mod-lt, mod-eq-of-lt}
 use native.Mathlib.Numerals.{add-one}
 use native.Mathlib.Omega.{arith}
 use lib.Dec.{eqb}
-use lib.ListN.{length, getD, take, length-append}
-use lib.Seq.{length-take-le}
+use lib.ListN.{length, getD, length-append}
 use Rattle.refusal.specs.Lent.{over, RoomFor, PutsAt}
 use Rattle.refusal.proofs.Pieces.{Fronted, fronted-none, put-sized, put-adds}
 use Rattle.trellis.specs.declared.ConvCode.{ConvCode}

@@ -9,7 +9,7 @@ use native.Mathlib.Nat.{div-one, mod-one}
 use native.Mathlib.Omega.{arith}
 use borrow.Author.Tests.{ltb-true, leb-true, eqb-true}
 use lib.Dec.{eqb, ltb, leb}
-use lib.ListN.{length, getD, take, replicate, length-append, length-replicate, List·getD-eq-default}
+use lib.ListN.{length, getD, take, replicate, length-append, List·getD-eq-default}
 use lib.Seq.{take-at}
 use Rattle.trellis.specs.declared.ConvCode.{ConvCode}
 use Rattle.trellis.specs.declared.KeepPattern.{KeepPattern}

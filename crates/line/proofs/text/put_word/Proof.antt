@@ -3,9 +3,9 @@ use mathlib.Core.List.{map}
 use Prim.Native.Nat.{_-_}
 use native.Mathlib.Omega.{arith}
 use borrow.Author.Needs.{needs}
-use lib.ListN.{length, length-map}
+use lib.ListN.{length}
 use Rattle.line.specs.Text.{bitText}
-use Rattle.line.proofs.Written.{Pasted, pasted-starts, pasted-ends, puts-as, room-as}
+use Rattle.line.proofs.Written.{Pasted, pasted-starts, puts-as, room-as}
 use Rattle.line.proofs.Written.{empty-text, bits-text, bit-inside, word-goes-on, word-ends}
 use Rattle.line.proofs.text.put_word.Statement.{statement}
 use Rattle.line.proofs.text.put_word.Tie as tie
