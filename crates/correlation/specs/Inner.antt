@@ -2,12 +2,13 @@
 use mathlib.Core.List.{List, _++_}
 use mathlib.Core.Logic.{_⊎_}
 use mathlib.Core.Path.{_≡_}
-use Prim.Native.Nat.{ℕ, _*_, _^_, _≤_}
+use Prim.Native.Nat.{ℕ, _*_, _^_, _≤_, _<_}
 use lib.ListN.{length, getD, drop}
 use Rattle.refusal.specs.Lent.{Lent}
 use Rattle.refusal.specs.Limits.{most}
 use Rattle.trellis.specs.declared.ConvCode.{ConvCode}
 use Rattle.trellis.specs.declared.KeepPattern.{KeepPattern}
+use Rattle.trellis.specs.Choice.{k7, codeOf, patternOf}
 use Rattle.trellis.specs.Codeword.{stepsOf}
 use Rattle.trellis.specs.Keep.{Keep}
 use Rattle.trellis.specs.Inner.{Rows, Halved, Crossed}
@@ -76,3 +77,22 @@ pub record Finds
   pub survivors :
       scratch .left
       ≡ filledRows kind code p readings (stepsOf code info) ++ drop (stepsOf code info * states) (scratch .given)
+
+-- the same for what a code number and a rate number select
+abbrev pub FindsAt :
+    {A M : Type 0} → Kind A M → (code rate info : ℕ) → List A → M → (out scratch : Lent ℕ) → Type 0
+FindsAt kind code rate info readings r out scratch =
+    Finds kind (codeOf code) (patternOf code rate) (2 ^ codeOf code .width) info readings r out scratch
+
+-- ---- which readings are used
+
+-- `used_of`: a keep pattern as the code holds it, and steps that an info count within the limit has
+pub record Usable (keep : KeepPattern) (steps : ℕ) : Type 0 where
+  pub pattern : Rows keep
+  pub few : steps ≤ stepsOf k7 most
+
+-- `used_of`: as many as are needed, where there are so many; few enough for a place
+pub record UsedOf (need count used : ℕ) : Type 0 where
+  pub short : count < need → used ≡ count
+  pub enough : need ≤ count → used ≡ need
+  pub few : used ≤ 65536

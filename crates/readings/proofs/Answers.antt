@@ -1,15 +1,15 @@
--- The refusals in their order, which readings are used, and which score an accepted call has. Assumes nothing.
+-- The refusals in their order, and which score an accepted call has. Assumes nothing.
 use mathlib.Core.List.{List}
-use mathlib.Core.Path.{_≡_, refl, sym, ap, _∙_}
+use mathlib.Core.Path.{_≡_, sym, ap, _∙_}
 use Prim.Native.Nat.{ℕ, _≤_, _<_}
-use native.Mathlib.Decide.{decLt}
 use native.Mathlib.Omega.{arith}
 use borrow.Author.Tests.{lt-ltb, le-ltb}
 use lib.Dec.{ltb}
 use lib.Ieee.{Float}
 use lib.ListN.{length, take}
-use lib.Seq.{take-all, length-take-le}
+use Rattle.correlation.specs.Inner.{UsedOf}
 use Rattle.correlation.proofs.Lengths.{length-word, length-filled}
+use Rattle.correlation.proofs.Used.{used-taken, used-counted}
 use Rattle.encoder.specs.Encode.{codedLengthOf}
 use Rattle.encoder.specs.Promise.{Decides}
 use Rattle.encoder.proofs.Checks.{choice-refused, choice-passes, checked-past}
@@ -23,54 +23,14 @@ use Rattle.refusal.specs.Numbers.{shortOutput, shortScratch, badReading}
 use Rattle.refusal.proofs.FirstBad.{some-bad, none-bad, accepted-past-bad}
 use Rattle.refusal.proofs.Over.{both-accepted}
 use Rattle.refusal.proofs.Told.{accepted-told, accepted-past}
-use Rattle.trellis.specs.declared.KeepPattern.{KeepPattern}
-use Rattle.trellis.specs.Choice.{codeOf, patternOf, keepOf}
+use Rattle.trellis.specs.Choice.{codeOf, patternOf}
 use Rattle.trellis.specs.Codeword.{stepsOf}
-use Rattle.trellis.proofs.Chosen.{code-width, code-narrow, rate-pattern}
-use Rattle.trellis.specs.Keep.{codedLength}
-use Rattle.trellis.proofs.Columns.{rows-pattern}
-use Rattle.trellis.proofs.Kept.{coded-le}
+use Rattle.trellis.proofs.Chosen.{code-narrow}
 use Rattle.readings.specs.Decode.{score}
-use Rattle.readings.specs.Inner.{Usable, UsedOf, FindsAt}
+use Rattle.readings.specs.Inner.{FindsAt}
 use Rattle.readings.specs.Promise.{Decodes}
-use Rattle.readings.specs.Said.{mostReadings, survivorsOf, examined, decodeSaid}
+use Rattle.readings.specs.Said.{survivorsOf, examined, decodeSaid}
 use Rattle.readings.specs.Sums.{soft}
-
--- ---- which readings are used
-
-pub length-few : (code rate info : ℕ) → info ≤ most → codedLengthOf code rate info ≤ mostReadings
-length-few code rate info h =
-    omega (arith, coded-le (patternOf code rate) (rate-pattern code rate) (stepsOf (codeOf code) info), code-width code)
-
-pub usable-few : {keep : KeepPattern} {steps : ℕ} → Usable keep steps → codedLength (keepOf keep) steps ≤ mostReadings
-usable-few {keep} {steps} usable =
-    omega (arith, coded-le (keepOf keep) (rows-pattern keep (usable .pattern)) steps, usable .few)
-
-pub uses-all : (need count coded : ℕ) → coded ≡ need → need ≤ mostReadings → count < coded → UsedOf need count count
-uses-all need count coded e few h =
-    record { short = λ g. refl; enough = λ g. absurd (omega (arith, e, h, g)); few = omega (arith, e, h, few) }
-
-pub uses-needed : (need count coded : ℕ) → coded ≡ need → need ≤ mostReadings → coded ≤ count → UsedOf need count coded
-uses-needed need count coded e few h =
-    record { short = λ g. absurd (omega (arith, e, h, g)); enough = λ g. e; few = omega (arith, e, few) }
-
-pub used-within : {need count used : ℕ} → UsedOf need count used → used ≤ count
-used-within {need} {count} is =
-    elim (decLt count need) [
-      | yes h ↦ omega (arith, is .short h)
-      | no h ↦ omega (arith, is .enough (omega arith), h)
-    ]
-
-module _ (need used : ℕ) (readings : List Float) (is : UsedOf need (length readings) used) where
-  used-taken : take used readings ≡ take need readings
-  used-taken =
-      elim (decLt (length readings) need) [
-        | yes h ↦ take-all used readings (omega (arith, is .short h)) ∙ sym (take-all need readings (omega arith))
-        | no h ↦ ap (λ (n : ℕ). take n readings) (is .enough (omega arith))
-      ]
-
-  used-counted : length (take need readings) ≡ used
-  used-counted = ap (λ (l : List Float). length l) (sym used-taken) ∙ length-take-le used readings (used-within is)
 
 -- ---- the refusals
 

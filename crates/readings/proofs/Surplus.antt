@@ -12,6 +12,7 @@ use lib.Ieee.{Float}
 use lib.ListN.{length, take, drop, replicate, length-append, length-replicate}
 use lib.Seq.{take-take, take-at}
 use Rattle.correlation.proofs.Surplus.{rows-taken, word-taken, score-taken}
+use Rattle.correlation.proofs.Used.{length-few}
 use Rattle.encoder.specs.Encode.{codedLengthOf}
 use Rattle.f32s.specs.Single.{zero32}
 use Rattle.refusal.specs.Answer.{Said, refused, refuseWhen}
@@ -25,7 +26,6 @@ use Rattle.readings.specs.Decode.{word, filledRows}
 use Rattle.readings.specs.Promise.{Decodes}
 use Rattle.readings.specs.Said.{mostReadings, decodeSaid}
 use Rattle.readings.specs.Sums.{soft}
-use Rattle.readings.proofs.Answers.{length-few}
 
 -- ---- by the numbers of the code and the rate
 

@@ -1,27 +1,18 @@
 -- What `viterbi_decode_soft_with` answers, for every input. Definitions only.
 use mathlib.Core.List.{List}
-use Prim.Native.Nat.{ℕ, _*_, _^_}
+use Prim.Native.Nat.{ℕ}
 use lib.Dec.{ltb}
 use lib.Ieee.{Float}
 use lib.ListN.{take}
+pub use Rattle.correlation.specs.Amounts.{mostReadings, survivorsOf}
 use Rattle.correlation.specs.Decode as any
 use Rattle.encoder.specs.Encode.{codedLengthOf, checked}
 use Rattle.f32s.specs.Single.{finite}
 use Rattle.refusal.specs.Answer.{Said, accepted, refuseWhen}
 use Rattle.refusal.specs.First.{firstBad, refuseAtBad}
-use Rattle.refusal.specs.Limits.{most}
 use Rattle.refusal.specs.Numbers.{shortOutput, shortScratch, badReading}
-use Rattle.trellis.specs.Choice.{k7, codeOf, patternOf}
-use Rattle.trellis.specs.Codeword.{stepsOf}
+use Rattle.trellis.specs.Choice.{codeOf, patternOf}
 use Rattle.readings.specs.Decode.{score}
-
--- the most readings that a decoding uses: two for each step of the longest word in the wider code
-abbrev pub mostReadings : ℕ
-mostReadings = 2 * stepsOf k7 most
-
--- how many survivors there are: steps × states
-abbrev pub survivorsOf : (code info : ℕ) → ℕ
-survivorsOf code info = stepsOf (codeOf code) info * 2 ^ codeOf code .width
 
 -- refused at the first reading that is NaN or infinite
 abbrev pub examined : {A : Type 0} → List Float → Said A → Said A

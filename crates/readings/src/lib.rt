@@ -1,13 +1,13 @@
 // The block decoder of readings: what it refuses, and which code and keep pattern it runs.
 ghost use mathlib.Core.Path.{_≡_};
 ghost use Prim.Native.Nat.{_-_, _*_, _^_};
-ghost use Rattle.correlation.specs.Inner.{Decodable};
+ghost use Rattle.correlation.specs.Inner.{Decodable, Usable, UsedOf};
 ghost use Rattle.refusal.specs.Answer.{Scores, wordSaid, refused};
 ghost use Rattle.refusal.specs.Lent.{lent};
 ghost use Rattle.trellis.specs.Choice.{keepOf};
 ghost use Rattle.trellis.specs.Keep.{codedLength};
 ghost use Rattle.trellis.specs.Inner.{Narrow};
-ghost use Rattle.readings.specs.Inner.{Finds, Usable, UsedOf};
+ghost use Rattle.readings.specs.Inner.{Finds};
 ghost use Rattle.readings.specs.Promise.{Decodes, DecodesBytes};
 
 mod forward_pass;

@@ -1,6 +1,6 @@
 -- `readings::used_of`: the coded length, or fewer where there are fewer. Assumes nothing.
 use native.Mathlib.Omega.{arith}
-use Rattle.readings.proofs.Answers.{usable-few, uses-all, uses-needed}
+use Rattle.correlation.proofs.Used.{usable-few, uses-all, uses-needed}
 use Rattle.readings.proofs.used_of.Statement.{statement}
 use Rattle.readings.proofs.used_of.Tie as tie
 

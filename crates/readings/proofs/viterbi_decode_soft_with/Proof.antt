@@ -4,11 +4,13 @@ use native.Mathlib.Omega.{arith}
 use borrow.Author.Needs.{needs}
 use lib.Seq.{length-take-le}
 use Rattle.encoder.proofs.Checks.{choice-few}
+use Rattle.correlation.proofs.Selected.{same-rows, half-few, rows-few, chosen-usable, used-chosen, chosen-decodable}
+use Rattle.correlation.proofs.Selected.{finds-selected}
+use Rattle.correlation.proofs.Used.{used-within}
 use Rattle.encoder.proofs.Selected.{chosen-narrow}
 use Rattle.refusal.proofs.Over.{both-refused}
 use Rattle.readings.proofs.Answers.{no-choice, no-room, no-scratch, bad-reading, good-readings}
-use Rattle.readings.proofs.Answers.{used-within, finds-decodes}
-use Rattle.readings.proofs.Selected.{same-rows, half-few, rows-few, chosen-usable, used-chosen, chosen-decodable, finds-selected}
+use Rattle.readings.proofs.Answers.{finds-decodes}
 use Rattle.readings.proofs.viterbi_decode_soft_with.Statement.{statement}
 use Rattle.readings.proofs.viterbi_decode_soft_with.Tie as tie
 

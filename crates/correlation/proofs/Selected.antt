@@ -5,10 +5,8 @@ use mathlib.Core.Path.{_≡_, ap, ap₂, _∙_}
 use Prim.Native.Nat.{ℕ, _+_, _-_, _*_, _^_, _≤_}
 use native.Mathlib.Nat.{mul-le-mul-right}
 use native.Mathlib.Omega.{arith}
-use lib.Ieee.{Float}
 use lib.ListN.{length}
 use lib.Pow.{pow-mono}
-use Rattle.correlation.specs.Inner.{Compiled, Decodable}
 use Rattle.encoder.proofs.Selected.{chosen-narrow, chosen-rows, keep-chosen, length-chosen}
 use Rattle.encoder.specs.Encode.{codedLengthOf}
 use Rattle.refusal.specs.Lent.{Lent}
@@ -21,8 +19,9 @@ use Rattle.trellis.specs.Keep.{codedLength}
 use Rattle.trellis.specs.Inner.{Chooses, Halved}
 use Rattle.trellis.proofs.Chosen.{code-width, code-sized, code-narrow, code-ends}
 use Rattle.trellis.proofs.States.{states-two-halves}
-use Rattle.readings.specs.Inner.{Finds, FindsAt, Usable, UsedOf}
-use Rattle.readings.specs.Said.{survivorsOf}
+use Rattle.correlation.specs.Arithmetic.{Kind}
+use Rattle.correlation.specs.Amounts.{survivorsOf}
+use Rattle.correlation.specs.Inner.{Compiled, Decodable, Finds, FindsAt, Usable, UsedOf}
 
 pub code-few : (n : ℕ) → 2 ^ (codeOf n .width - 1) ≤ 32
 code-few n = pow-mono {j = 5} (omega (arith, code-width n))
@@ -90,7 +89,7 @@ module _ {code rate : ℕ} {chosen : Selected} (is : Chooses code rate chosen) w
 
     -- so what is found is what the numbers select
     pub finds-selected :
-        {info : ℕ} {readings : List Float} {r : Float} {out scratch : Lent ℕ} →
-        Finds (chosen .code) (keepOf (chosen .keep)) (2 * half) info readings r out scratch →
-        FindsAt code rate info readings r out scratch
+        {A M : Type 0} {kind : Kind A M} {info : ℕ} {readings : List A} {r : M} {out scratch : Lent ℕ} →
+        Finds kind (chosen .code) (keepOf (chosen .keep)) (2 * half) info readings r out scratch →
+        FindsAt kind code rate info readings r out scratch
     finds-selected finds = rw (is .taps, keep-chosen is, code-states code half of-half) at finds
