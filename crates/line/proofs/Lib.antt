@@ -1,8 +1,6 @@
--- Written: a text put element by element, and texts behind one another. Digits: a number's digits, the last first. Decoding: the
--- line's answer is the decoder's. Example: document 01's example. Cut: only the bytes that the program has room for count.
--- Unique: each contract allows one outcome at most.
+-- Written: texts behind one another. Decoding: the line's answer is the decoder's. Example: document 01's example. Cut: only the bytes that
+-- the program has room for count. Unique: each contract allows one outcome at most.
 pub mod Written
-pub mod Digits
 pub mod Decoding
 pub mod Example
 pub mod Cut

@@ -14,7 +14,7 @@ use Rattle.refusal.specs.Answer.{Said, accepted, refused, refuseWhen}
 use Rattle.refusal.specs.Numbers.{badInput}
 use Rattle.trellis.specs.Choice.{k7, codeOf, patternOf}
 use Rattle.trellis.specs.Codeword.{stepsOf}
-use Rattle.line.specs.Text.{hexDigits, decimal, wordText}
+use Rattle.text.specs.Text.{hexDigits, decimal, wordText}
 
 -- the most bytes of an input, and the most info bits that it may ask for
 abbrev pub mostBytes : ℕ

@@ -7,9 +7,6 @@ ghost use Rattle.refusal.specs.Answer.{accepted};
 ghost use Rattle.line.specs.Line.{mostBytes, mostInfo, shaped};
 ghost use Rattle.line.specs.Promise.{AnswersInput};
 ghost use Rattle.line.specs.Inner.{refusalSaid, RefusalIn, PrintsAnswer};
-
-mod text;
-
 use refusal::Decoded;
 use refusal::Refusal;
 use text::put;

@@ -12,7 +12,7 @@ use Rattle.refusal.specs.Numbers.{badInput}
 use Rattle.line.specs.Line.{mostInfo, shaped, infoIn}
 use Rattle.line.proofs.Decoding.{shaped-long, unshaped-said, output-refused}
 use Rattle.line.proofs.Decoding.{Decided, Called, choice-output, refused-output, info-few, word-output}
-use Rattle.line.proofs.Written.{rest-taken}
+use Rattle.text.proofs.Written.{rest-taken}
 use Rattle.line.proofs.answer.Statement.{statement}
 use Rattle.line.proofs.answer.Tie as tie
 

@@ -1,7 +1,7 @@
 -- `line::refused_line`: five texts, each behind the one before. Assumes nothing.
 use native.Mathlib.Omega.{arith}
 use borrow.Author.Needs.{needs}
-use Rattle.line.proofs.Digits.{decimal-few}
+use Rattle.text.proofs.Digits.{decimal-few}
 use Rattle.line.proofs.Written.{five-texts}
 use Rattle.line.proofs.refused_line.Statement.{statement}
 use Rattle.line.proofs.refused_line.Tie as tie

@@ -2,9 +2,10 @@
 use mathlib.Core.Path.{ap}
 use native.Mathlib.Omega.{arith}
 use borrow.Author.Needs.{needs}
-use Rattle.line.specs.Text.{hexDigits}
-use Rattle.line.proofs.Digits.{eight}
-use Rattle.line.proofs.Written.{text-few, puts-as, five-texts}
+use Rattle.text.specs.Text.{hexDigits}
+use Rattle.text.proofs.Digits.{eight}
+use Rattle.text.proofs.Written.{puts-as}
+use Rattle.line.proofs.Written.{text-few, five-texts}
 use Rattle.line.proofs.word_line.Statement.{statement}
 use Rattle.line.proofs.word_line.Tie as tie
 

@@ -1,12 +1,12 @@
--- `line::text::put`: the laws of a turn at what is known there. Assumes nothing.
+-- `text::put`: the laws of a turn at what is known there. Assumes nothing.
 use mathlib.Core.Path.{refl}
 use Prim.Native.Nat.{_-_}
 use native.Mathlib.Omega.{arith}
 use borrow.Author.Needs.{needs}
 use lib.ListN.{length}
-use Rattle.line.proofs.Written.{Pasted, pasted-starts, pasted-goes-on, pasted-ends}
-use Rattle.line.proofs.text.put.Statement.{statement}
-use Rattle.line.proofs.text.put.Tie as tie
+use Rattle.text.proofs.Written.{Pasted, pasted-starts, pasted-goes-on, pasted-ends}
+use Rattle.text.proofs.put.Statement.{statement}
+use Rattle.text.proofs.put.Tie as tie
 
 abbrev Inv-loop : tie.InvT-loop
 Inv-loop out₀ at text i₀ i-end out i = Pasted out₀ at text out i

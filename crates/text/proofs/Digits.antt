@@ -9,8 +9,8 @@ use borrow.Author.Tests.{lt-ltb, le-ltb}
 use lib.Dec.{ltb, lit<, lit≤}
 use lib.ListN.{length, take, drop, set, replicate, length-set, length-append}
 use lib.Seq.{drop-cons, drop-set-lt, getD-set-same, append-snoc}
-use Rattle.line.specs.Text.{digit, hexDigits, decimalDigits, decimal}
-use Rattle.line.proofs.Written.{rest-taken}
+use Rattle.text.specs.Text.{digit, hexDigits, decimalDigits, decimal}
+use Rattle.text.proofs.Written.{rest-taken}
 
 drop-set : (l : List ℕ) (k d : ℕ) → k < length l → drop k (set l k d) ≡ d ∷ drop (suc k) l
 drop-set l k d h =

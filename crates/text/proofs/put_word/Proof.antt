@@ -1,14 +1,14 @@
--- `line::text::put_word`: an empty word's text, or the laws of a turn. Assumes nothing.
+-- `text::put_word`: an empty word's text, or the laws of a turn. Assumes nothing.
 use mathlib.Core.List.{map}
 use Prim.Native.Nat.{_-_}
 use native.Mathlib.Omega.{arith}
 use borrow.Author.Needs.{needs}
 use lib.ListN.{length}
-use Rattle.line.specs.Text.{bitText}
-use Rattle.line.proofs.Written.{Pasted, pasted-starts, puts-as, room-as}
-use Rattle.line.proofs.Written.{empty-text, bits-text, bit-inside, word-goes-on, word-ends}
-use Rattle.line.proofs.text.put_word.Statement.{statement}
-use Rattle.line.proofs.text.put_word.Tie as tie
+use Rattle.text.specs.Text.{bitText}
+use Rattle.text.proofs.Written.{Pasted, pasted-starts, puts-as, room-as}
+use Rattle.text.proofs.Written.{empty-text, bits-text, bit-inside, word-goes-on, word-ends}
+use Rattle.text.proofs.put_word.Statement.{statement}
+use Rattle.text.proofs.put_word.Tie as tie
 
 abbrev Inv-loop : tie.InvT-loop
 Inv-loop out₀ at word i₀ i-end out i = Pasted out₀ at (map bitText word) out i

@@ -3,8 +3,8 @@
 ghost use mathlib.Core.Path.{_≡_};
 ghost use Prim.Native.Nat.{_<_};
 ghost use Rattle.refusal.specs.Lent.{lent, RoomFor, PutsAt};
-ghost use Rattle.line.specs.Text.{bitText, wordText, hexDigits, decimal};
-ghost use Rattle.line.specs.Text as text;
+ghost use Rattle.text.specs.Text.{bitText, wordText, hexDigits, decimal};
+ghost use Rattle.text.specs.Text as text;
 
 pub fn put(out: &mut [u8], at: usize, text: &[u8]) -> usize
     requires { ⌜ RoomFor (now text) at (now out) ⌝ }

@@ -1,10 +1,10 @@
--- `line::text::put_hex`: the laws of a turn at what is known there. Assumes nothing.
+-- `text::put_hex`: the laws of a turn at what is known there. Assumes nothing.
 use native.Mathlib.Omega.{arith}
 use borrow.Author.Needs.{needs}
-use Rattle.line.proofs.Digits.{HexLeft, hex-starts, hex-goes-on, hex-ends}
-use Rattle.line.proofs.Written.{puts-as, room-as}
-use Rattle.line.proofs.text.put_hex.Statement.{statement}
-use Rattle.line.proofs.text.put_hex.Tie as tie
+use Rattle.text.proofs.Digits.{HexLeft, hex-starts, hex-goes-on, hex-ends}
+use Rattle.text.proofs.Written.{puts-as, room-as}
+use Rattle.text.proofs.put_hex.Statement.{statement}
+use Rattle.text.proofs.put_hex.Tie as tie
 
 abbrev Inv-loop : tie.InvT-loop
 Inv-loop out at n digits₀ rest₀ i₀ digits rest i = HexLeft n digits rest i

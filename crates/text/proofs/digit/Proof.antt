@@ -1,9 +1,9 @@
--- `line::text::digit`: 0 stands at 48 in ASCII, A at 65. Assumes nothing.
+-- `text::digit`: 0 stands at 48 in ASCII, A at 65. Assumes nothing.
 use native.Mathlib.Omega.{arith}
 use borrow.Author.Needs.{needs}
 use borrow.Author.Tests.{lt-ltb, le-ltb}
-use Rattle.line.proofs.text.digit.Statement.{statement}
-use Rattle.line.proofs.text.digit.Tie as tie
+use Rattle.text.proofs.digit.Statement.{statement}
+use Rattle.text.proofs.digit.Tie as tie
 
 cast-result : tie.Need-cast-result
 cast-result c = search needs

@@ -1,7 +1,7 @@
--- `line::text::bit_text`. Assumes nothing.
+-- `text::bit_text`. Assumes nothing.
 use borrow.Author.Tests.{eq-eqb, ne-eqb}
-use Rattle.line.proofs.text.bit_text.Statement.{statement}
-use Rattle.line.proofs.text.bit_text.Tie as tie
+use Rattle.text.proofs.bit_text.Statement.{statement}
+use Rattle.text.proofs.bit_text.Tie as tie
 
 returns : tie.Need-returns
 returns c = rw (eq-eqb (c .before .args .b) 0 (c .if1 .taken))

@@ -1,11 +1,11 @@
--- `line::text::put_decimal`: the laws of a turn at what is known there. Assumes nothing.
+-- `text::put_decimal`: the laws of a turn at what is known there. Assumes nothing.
 use native.Mathlib.Omega.{arith}
 use borrow.Author.Needs.{needs}
 use lib.ListN.{length-set}
-use Rattle.line.proofs.Digits.{DecimalLeft, decimal-starts, decimal-room, decimal-goes-on, decimal-ends}
-use Rattle.line.proofs.Written.{puts-as, room-as}
-use Rattle.line.proofs.text.put_decimal.Statement.{statement}
-use Rattle.line.proofs.text.put_decimal.Tie as tie
+use Rattle.text.proofs.Digits.{DecimalLeft, decimal-starts, decimal-room, decimal-goes-on, decimal-ends}
+use Rattle.text.proofs.Written.{puts-as, room-as}
+use Rattle.text.proofs.put_decimal.Statement.{statement}
+use Rattle.text.proofs.put_decimal.Tie as tie
 
 abbrev Inv-loop : tie.InvT-loop
 Inv-loop out at n digits₀ rest₀ i₀ digits rest i = DecimalLeft n digits rest i

@@ -1,0 +1,2 @@
+-- Text: numbers and words as the program writes them.
+pub mod Text
