@@ -1,7 +1,6 @@
 -- `symbols::fill_phasors`: the laws of a turn at what is known there. Assumes nothing.
 use Prim.Native.Nat.{_-_}
 use native.Mathlib.Omega.{arith}
-use borrow.Author.Needs.{needs}
 use lib.ListN.{length-set}
 use Rattle.symbols.proofs.Hard.{Turned, turned-starts, turned-goes-on, turned-ends}
 use Rattle.symbols.proofs.fill_phasors.Statement.{statement}
@@ -35,7 +34,7 @@ pub fill-phasors-spec : {M : Type 1} → statement M
 fill-phasors-spec =
     tie.close
     (tie.spec Inv-loop μ-loop loop-holds
-    (search needs) (search needs) (search needs) (search needs) (search needs) (search needs) (search needs) (search needs)
-    (search needs) (search needs) (search needs) (search needs) (search needs) slice-write-soft-2
-    (search needs) (search needs) loop-again
+    (λ c. omega arith) (λ c. omega arith) (λ c. omega arith) (λ c. omega arith) (λ c. omega arith) (λ c. omega arith) (λ c. omega arith)
+    (λ c. omega arith) (λ c. omega arith) (λ c. omega arith) (λ c. omega arith) (λ c. omega arith) (λ c. omega arith) slice-write-soft-2
+    (λ c. omega arith) (λ c. omega arith) loop-again
     same-length returns)
