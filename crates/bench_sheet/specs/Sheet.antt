@@ -8,7 +8,7 @@ use lib.IntN.{ℤ, pos, negℤ}
 use lib.ListN.{length}
 use Rattle.best_word.specs.Claim.{scoreOf}
 use Rattle.f32s.specs.Single.{zero32}
-use Rattle.readings.specs.Decode.{word, score}
+use Rattle.forward.specs.Decode.{word, score}
 use Rattle.trellis.specs.Choice.{codeOf, patternOf}
 use Rattle.trellis.specs.Codeword.{stepsOf, codeword}
 use Rattle.trellis.specs.Keep.{codedLength}

@@ -16,7 +16,7 @@ use Rattle.correlation.specs.Decode as any
 use Rattle.correlation.specs.Gain.{gain}
 use Rattle.correlation.specs.Whole.{whole}
 use Rattle.f32s.specs.Whole.{floatOf}
-use Rattle.readings.specs.Decode.{word, score}
+use Rattle.forward.specs.Decode.{word, score}
 use Rattle.trellis.specs.declared.ConvCode.{ConvCode}
 use Rattle.trellis.specs.Choice.{codeOf, patternOf}
 use Rattle.trellis.specs.Codeword.{stepsOf, codeword}

@@ -15,10 +15,10 @@ use lib.Seq.{take-at}
 use Rattle.correlation.proofs.Lengths.{length-word}
 use Rattle.f32s.specs.Single.{finite, allOfBytes}
 use Rattle.f32s.proofs.Wholes.{whole-finite}
-use Rattle.readings.specs.Decode.{word, score}
+use Rattle.forward.specs.Decode.{word, score}
+use Rattle.forward.specs.Sums.{soft}
 use Rattle.readings.specs.Promise.{Decodes}
 use Rattle.readings.specs.Said.{survivorsOf, examined, decodeSaid}
-use Rattle.readings.specs.Sums.{soft}
 use Rattle.readings.proofs.Answers.{accepted-score}
 use Rattle.readings.proofs.viterbi_decode_bytes.Reads as viterbi-decode-bytes
 use Rattle.readings.proofs.viterbi_decode_soft_with.Reads as viterbi-decode-soft-with

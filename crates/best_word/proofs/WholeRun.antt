@@ -30,8 +30,8 @@ use Rattle.f32s.proofs.Ordered.{lt-trans, lt-irrefl}
 use Rattle.f32s.proofs.Wholes.{whole-zero, whole-neg, whole-ofInt, whole-add, whole-sub, whole-lt, float-of-zero, ofInt-add}
 use Rattle.f32s.proofs.Wholes.{mark-lt-whole, whole-not-le-mark}
 use Rattle.butterflies.specs.Largest.{mark, largest}
-use Rattle.readings.specs.Decode.{mets, word, score}
-use Rattle.readings.specs.Sums.{floats, soft}
+use Rattle.forward.specs.Decode.{mets, word, score}
+use Rattle.forward.specs.Sums.{floats, soft}
 use Rattle.trellis.specs.declared.ConvCode.{ConvCode}
 use Rattle.trellis.specs.Codeword.{stepsOf}
 use Rattle.trellis.specs.Keep.{Keep, Pattern, keeps0, keeps1, codedLength}

@@ -12,7 +12,7 @@ use lib.ListN.{length, getD, take}
 use lib.Signed.{ltZ}
 use Rattle.best_path.specs.Path.{passes, Ahead}
 use Rattle.f32s.specs.Whole.{floatOf}
-use Rattle.readings.specs.Decode.{word}
+use Rattle.forward.specs.Decode.{word}
 use Rattle.refusal.specs.Answer.{accepted, refused, wordSaid}
 use Rattle.refusal.specs.declared.Decoded.{Decoded}
 use Rattle.refusal.specs.Numbers.{badReading}

@@ -11,9 +11,9 @@ use lib.Ieee.{Float, binary32, toBits}
 use lib.ListN.{length, take, length-take}
 use Rattle.encoder.specs.Encode.{codedLengthOf, checked, roomed, lengthSaid, encodeSaid, plainSaid}
 use Rattle.f32s.specs.Single.{finite}
-use Rattle.readings.specs.Decode.{score}
+use Rattle.forward.specs.Decode.{score}
+use Rattle.forward.proofs.Metrics.{score-below}
 use Rattle.readings.specs.Said.{survivorsOf, decodeSaid}
-use Rattle.readings.proofs.Metrics.{score-below}
 use Rattle.refusal.specs.Answer.{Said, accepted, scoreBits, doorNumber, doorRead}
 use Rattle.refusal.specs.Limits.{most}
 use Rattle.refusal.specs.Numbers.{unknownCode, unknownRate, tooMany, shortOutput, shortScratch, badReading}

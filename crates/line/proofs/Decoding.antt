@@ -16,9 +16,9 @@ use Rattle.correlation.proofs.Lengths.{length-word}
 use Rattle.encoder.specs.Promise.{Decides}
 use Rattle.encoder.proofs.Checks.{choice-refused, choice-passes, choice-passes-wider, choice-few}
 use Rattle.f32s.specs.Single.{allOfBytes}
-use Rattle.readings.specs.Decode.{word}
+use Rattle.forward.specs.Decode.{word}
+use Rattle.forward.specs.Sums.{soft}
 use Rattle.readings.specs.Said.{survivorsOf, decodeSaid}
-use Rattle.readings.specs.Sums.{soft}
 use Rattle.refusal.specs.Answer.{accepted, refused, wordSaid}
 use Rattle.refusal.specs.declared.Decoded.{Decoded}
 use Rattle.refusal.specs.declared.Decoded.the-variants as variants

@@ -8,7 +8,7 @@ use lib.ListN.{length, getD, take, drop}
 use Rattle.correlation.specs.Decode as any
 use Rattle.encoder.specs.Encode.{codedLengthOf, checkedTo}
 use Rattle.f32s.specs.Single.{allOfBytes}
-use Rattle.readings.specs.Decode.{word, score}
+use Rattle.forward.specs.Decode.{word, score}
 use Rattle.readings.specs.Said.{examined}
 use Rattle.refusal.specs.Answer.{Said, accepted, refused, refuseWhen}
 use Rattle.refusal.specs.Numbers.{badInput}

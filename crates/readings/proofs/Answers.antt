@@ -14,6 +14,8 @@ use Rattle.encoder.specs.Encode.{codedLengthOf}
 use Rattle.encoder.specs.Promise.{Decides}
 use Rattle.encoder.proofs.Checks.{choice-refused, choice-passes, checked-past}
 use Rattle.f32s.specs.Single.{finite}
+use Rattle.forward.specs.Decode.{score}
+use Rattle.forward.specs.Sums.{soft}
 use Rattle.refusal.specs.declared.Decoded.the-variants as decoded
 use Rattle.refusal.specs.Answer.{Said, accepted, refused, refuseWhen, Scores}
 use Rattle.refusal.specs.First.{firstBad}
@@ -26,11 +28,9 @@ use Rattle.refusal.proofs.Told.{accepted-told, accepted-past}
 use Rattle.trellis.specs.Choice.{codeOf, patternOf}
 use Rattle.trellis.specs.Codeword.{stepsOf}
 use Rattle.trellis.proofs.Chosen.{code-narrow}
-use Rattle.readings.specs.Decode.{score}
 use Rattle.readings.specs.Inner.{FindsAt}
 use Rattle.readings.specs.Promise.{Decodes}
 use Rattle.readings.specs.Said.{survivorsOf, examined, decodeSaid}
-use Rattle.readings.specs.Sums.{soft}
 
 -- ---- the refusals
 

@@ -15,6 +15,8 @@ use Rattle.correlation.proofs.Surplus.{rows-taken, word-taken, score-taken}
 use Rattle.correlation.proofs.Used.{length-few}
 use Rattle.encoder.specs.Encode.{codedLengthOf}
 use Rattle.f32s.specs.Single.{zero32}
+use Rattle.forward.specs.Decode.{word, filledRows}
+use Rattle.forward.specs.Sums.{soft}
 use Rattle.refusal.specs.Answer.{Said, refused, refuseWhen}
 use Rattle.refusal.specs.Limits.{most}
 use Rattle.refusal.specs.Numbers.{unknownCode, unknownRate, tooMany}
@@ -22,10 +24,8 @@ use Rattle.refusal.specs.Lent.{leaves, Lent}
 use Rattle.trellis.specs.Choice.{knownCode, codeOf, knownRate, patternOf}
 use Rattle.trellis.specs.Codeword.{stepsOf}
 use Rattle.trellis.proofs.Chosen.{rate-pattern}
-use Rattle.readings.specs.Decode.{word, filledRows}
 use Rattle.readings.specs.Promise.{Decodes}
 use Rattle.readings.specs.Said.{mostReadings, decodeSaid}
-use Rattle.readings.specs.Sums.{soft}
 
 -- ---- by the numbers of the code and the rate
 

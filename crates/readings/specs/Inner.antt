@@ -1,24 +1,13 @@
--- What the inner functions ensure, in f32; what they ask, and the same over any kind of decoder, is in crate
--- `correlation`. Definitions only.
+-- What `decode` ensures, in f32; what it asks, and the same over any kind of decoder, is in crate `correlation`.
+-- Definitions only.
 use mathlib.Core.List.{List}
 use Prim.Native.Nat.{ℕ}
-use lib.Ieee.{Float, nan}
-use lib.ListN.{getD}
+use lib.Ieee.{Float}
 use Rattle.correlation.specs.Inner as any
+use Rattle.forward.specs.Sums.{soft}
 use Rattle.refusal.specs.Lent.{Lent}
 use Rattle.trellis.specs.declared.ConvCode.{ConvCode}
 use Rattle.trellis.specs.Keep.{Keep}
-use Rattle.readings.specs.Sums.{soft}
-
--- the metrics as the code holds them
-abbrev pub held : List Float → ℕ → Float
-held pm s = getD pm s nan
-
-abbrev pub Selects : ConvCode → (pm : List Float) (a b : Float) → Lent Float → Lent ℕ → Type 0
-Selects code pm a b next row = any.Selects soft code (held pm) a b next row
-
-abbrev pub Runs : ConvCode → Keep → (states steps : ℕ) → List Float → Float → Lent ℕ → Type 0
-Runs code p states steps readings r rows = any.Runs soft code p states steps readings r rows
 
 abbrev pub Finds : ConvCode → Keep → (states info : ℕ) → List Float → Float → (out scratch : Lent ℕ) → Type 0
 Finds code p states info readings r out scratch = any.Finds soft code p states info readings r out scratch

@@ -1,7 +1,5 @@
--- Sums: correlations and metrics in f32. Decode: word, score and survivors. Said: what the decoder answers, for every
--- input. Promise: what the entries and their door promise. Inner: what the inner functions ask and ensure.
-pub mod Sums
-pub mod Decode
+-- Said: what the decoder answers, for every input. Promise: what the entries and their door promise. Inner: what
+-- `decode` ensures. The word, the score and the survivors are defined in crate `forward`.
 pub mod Said
 pub mod Promise
 pub mod Inner

@@ -5,11 +5,11 @@ use Prim.Native.Nat.{ℕ}
 use lib.Ieee.{Float}
 use lib.ListN.{length}
 use Rattle.f32s.specs.Single.{allOfBytes}
+use Rattle.forward.specs.Decode.{word, filledRows}
 use Rattle.refusal.specs.Answer.{Said}
 use Rattle.refusal.specs.Lent.{Lent, WritesBoth}
 use Rattle.trellis.specs.Choice.{codeOf, patternOf}
 use Rattle.trellis.specs.Codeword.{stepsOf}
-use Rattle.readings.specs.Decode.{word, filledRows}
 use Rattle.readings.specs.Said.{decodeSaid}
 
 -- `viterbi_decode_soft_with`: the word goes to `out`, the survivor numbers of all steps to `scratch`

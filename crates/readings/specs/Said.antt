@@ -8,11 +8,11 @@ pub use Rattle.correlation.specs.Amounts.{mostReadings, survivorsOf}
 use Rattle.correlation.specs.Decode as any
 use Rattle.encoder.specs.Encode.{codedLengthOf, checked}
 use Rattle.f32s.specs.Single.{finite}
+use Rattle.forward.specs.Decode.{score}
 use Rattle.refusal.specs.Answer.{Said, accepted, refuseWhen}
 use Rattle.refusal.specs.First.{firstBad, refuseAtBad}
 use Rattle.refusal.specs.Numbers.{shortOutput, shortScratch, badReading}
 use Rattle.trellis.specs.Choice.{codeOf, patternOf}
-use Rattle.readings.specs.Decode.{score}
 
 -- refused at the first reading that is NaN or infinite
 abbrev pub examined : {A : Type 0} → List Float → Said A → Said A

@@ -9,10 +9,7 @@ ghost use Rattle.trellis.specs.Keep.{codedLength};
 ghost use Rattle.trellis.specs.Inner.{Narrow};
 ghost use Rattle.readings.specs.Inner.{Finds};
 ghost use Rattle.readings.specs.Promise.{Decodes, DecodesBytes};
-
-mod forward_pass;
-
-use forward_pass::forward;
+use forward::forward;
 use refusal::Decoded;
 use refusal::Refusal;
 use trellis::ConvCode;

@@ -1,10 +1,10 @@
--- `readings::forward_pass::value_at`: the three kinds of place. Assumes nothing.
+-- `forward::value_at`: the three kinds of place. Assumes nothing.
 use borrow.Author.Needs.{needs}
 use lib.Ieee.{nan}
 use Rattle.f32s.specs.Single.{zero32}
 use Rattle.trellis.proofs.Places.{reads-received, reads-missing, reads-deleted}
-use Rattle.readings.proofs.forward_pass.value_at.Statement.{statement}
-use Rattle.readings.proofs.forward_pass.value_at.Tie as tie
+use Rattle.forward.proofs.value_at.Statement.{statement}
+use Rattle.forward.proofs.value_at.Tie as tie
 
 returns : tie.Need-returns
 returns c =

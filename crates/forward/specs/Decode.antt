@@ -6,7 +6,7 @@ use lib.Ieee.{Float}
 use Rattle.correlation.specs.Decode as any
 use Rattle.trellis.specs.declared.ConvCode.{ConvCode}
 use Rattle.trellis.specs.Keep.{Keep}
-use Rattle.readings.specs.Sums.{soft}
+use Rattle.forward.specs.Sums.{soft}
 
 module _ (code : ConvCode) (p : Keep) (readings : List Float) where
   -- the metrics after t steps, and the survivors of step t

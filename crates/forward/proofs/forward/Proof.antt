@@ -1,4 +1,4 @@
--- `readings::forward_pass::forward`: the laws of a step at what is known there. Assumes nothing.
+-- `forward::forward`: the laws of a step at what is known there. Assumes nothing.
 use Prim.Native.Nat.{_-_}
 use native.Mathlib.Omega.{arith}
 use borrow.Author.Needs.{needs}
@@ -6,9 +6,9 @@ use lib.Ieee.{nan}
 use lib.ListN.{length-take, length-drop}
 use Rattle.correlation.proofs.Steps.{Forwarded, forwarded-starts, forwarded-goes-on, forwarded-ends}
 use Rattle.correlation.proofs.Steps.{rows-sized, column-below, column-within, reads-few, middle-few, row-within, row-few}
-use Rattle.readings.specs.Sums.{soft}
-use Rattle.readings.proofs.forward_pass.forward.Statement.{statement}
-use Rattle.readings.proofs.forward_pass.forward.Tie as tie
+use Rattle.forward.specs.Sums.{soft}
+use Rattle.forward.proofs.forward.Statement.{statement}
+use Rattle.forward.proofs.forward.Tie as tie
 
 abbrev Inv-loop : tie.InvT-loop
 Inv-loop code half readings steps rows₀ c0 c1 period row0 row1 states pm₀ next₀ column₀ at₀ to₀ t₀ rows pm next column at to t =

@@ -1,14 +1,14 @@
--- `readings::forward_pass::step`: the laws of a turn at what is known there. Assumes nothing.
+-- `forward::step`: the laws of a turn at what is known there. Assumes nothing.
 use Prim.Native.Nat.{_-_}
 use native.Mathlib.Omega.{arith}
 use borrow.Author.Needs.{needs}
 use lib.ListN.{length-set}
 use Rattle.correlation.proofs.Turn.{Turns, turns-start, turns-go-on, turns-end}
-use Rattle.readings.specs.Inner.{held}
-use Rattle.readings.specs.Sums.{soft}
-use Rattle.readings.proofs.Lawful.{floats-lawful}
-use Rattle.readings.proofs.forward_pass.step.Statement.{statement}
-use Rattle.readings.proofs.forward_pass.step.Tie as tie
+use Rattle.forward.specs.Inner.{held}
+use Rattle.forward.specs.Sums.{soft}
+use Rattle.forward.proofs.Lawful.{floats-lawful}
+use Rattle.forward.proofs.step.Statement.{statement}
+use Rattle.forward.proofs.step.Tie as tie
 
 abbrev Inv-loop : tie.InvT-loop
 Inv-loop half c0 c1 a b pm next₀ row₀ s₀ n₀ next row s n = Turns soft half c0 c1 a b (held pm) next₀ row₀ next row s n

@@ -18,8 +18,8 @@ use Rattle.trellis.specs.declared.ConvCode.{ConvCode}
 use Rattle.trellis.specs.Codeword.{stepsOf}
 use Rattle.trellis.specs.Keep.{Keep}
 use Rattle.butterflies.specs.Largest.{mark, largest}
-use Rattle.readings.specs.Sums.{soft, gain}
-use Rattle.readings.specs.Decode.{mets, score}
+use Rattle.forward.specs.Sums.{soft, gain}
+use Rattle.forward.specs.Decode.{mets, score}
 
 abbrev NotNan : Float → Type 0
 NotNan x = T (not (isNan x))

@@ -1,4 +1,4 @@
-// All steps from state 0: add, compare, select, with the survivors of each kept.
+// All steps of the block decoder of readings, from state 0: add, compare, select, with the survivors of each kept.
 ghost use mathlib.Core.Bool.{cond};
 ghost use mathlib.Core.Path.{_≡_};
 ghost use Prim.Native.Nat.{_+_, _*_, _<_};
@@ -7,8 +7,8 @@ ghost use Rattle.correlation.specs.Inner.{Steppable, SteppableOf, Runnable};
 ghost use Rattle.refusal.specs.Lent.{lent};
 ghost use Rattle.trellis.specs.Choice.{keepOf};
 ghost use Rattle.trellis.specs.Places.{filled};
-ghost use Rattle.readings.specs.Inner.{Selects, Runs};
-ghost use Rattle.readings.specs.Sums.{valueOf};
+ghost use Rattle.forward.specs.Inner.{Selects, Runs};
+ghost use Rattle.forward.specs.Sums.{valueOf};
 use butterflies::largest::MARK;
 use butterflies::largest::butterfly;
 use butterflies::largest::signed;

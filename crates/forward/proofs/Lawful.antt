@@ -3,7 +3,7 @@ use mathlib.Core.Bool.{true, false}
 use mathlib.Core.Path.{_≡_, refl}
 use lib.Ieee.{Float, nan, inf, fin, sub, neg}
 use Rattle.correlation.proofs.Sides.{Lawful}
-use Rattle.readings.specs.Sums.{floats}
+use Rattle.forward.specs.Sums.{floats}
 
 neg-neg : (x : Float) → neg (neg x) ≡ x
 unfolding neg

@@ -1,10 +1,10 @@
--- `readings::forward_pass::step_of`: half is one of the two constants. Assumes nothing.
+-- `forward::step_of`: half is one of the two constants. Assumes nothing.
 use mathlib.Core.Logic.{⊎-elim}
 use mathlib.Core.Path.{_≡_, sym}
 use native.Mathlib.Omega.{arith}
 use borrow.Author.Needs.{needs}
-use Rattle.readings.proofs.forward_pass.step_of.Statement.{statement}
-use Rattle.readings.proofs.forward_pass.step_of.Tie as tie
+use Rattle.forward.proofs.step_of.Statement.{statement}
+use Rattle.forward.proofs.step_of.Tie as tie
 
 step-requires : tie.Need-step-requires
 step-requires c κs =
