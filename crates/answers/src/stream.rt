@@ -16,8 +16,8 @@ use call_lines::shapes::COMPONENTS;
 use refusal::Counted;
 use refusal::count_number;
 use streaming::Emitted;
-use streaming::Front;
 use streaming::StreamingViterbi;
+use streaming_steps::Front;
 
 // `n`. Prints a fresh record.
 pub fn fresh() {

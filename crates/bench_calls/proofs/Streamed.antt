@@ -19,10 +19,11 @@ use Rattle.refusal.specs.Numbers.{shortOutput}
 use Rattle.refusal.proofs.Filling.{Written, written-inside}
 use Rattle.refusal.proofs.Told.{refused-when, passed-when}
 use Rattle.refusal.proofs.Over.{over-kept, over-set, over-more, length-over, writes-refused, writes-accepted}
+use Rattle.streaming_steps.specs.Steps.{lag}
 use Rattle.streaming.specs.declared.Emitted.{Emitted}
 use Rattle.streaming.specs.declared.Emitted.the-variants as emitted
 use Rattle.streaming.specs.declared.StreamingViterbi.{StreamingViterbi}
-use Rattle.streaming.specs.Decoder.{lag, held}
+use Rattle.streaming.specs.Decoder.{held}
 use Rattle.streaming.specs.Promise.{Begins, Feeds}
 use Rattle.streaming.specs.Run.{runGives}
 use Rattle.streaming.specs.Said.{emittedSaid, bitsIn, Emits}

@@ -7,7 +7,7 @@ use lib.Ieee.{Float, nan}
 use lib.ListN.{length, getD}
 use Rattle.refusal.specs.Answer.{Said, accepted, refuseWhen}
 use Rattle.refusal.specs.Numbers.{shortOutput}
-use Rattle.streaming.specs.Decoder.{lag}
+use Rattle.streaming_steps.specs.Steps.{lag}
 use Rattle.streaming.specs.Life.{joinedBy}
 use Rattle.streaming.specs.Run.{Symbol, runGives}
 use Rattle.streaming.specs.Stream.{fresh}

@@ -20,7 +20,8 @@ use Rattle.butterflies.specs.Smallest.{mark, smallest}
 use Rattle.symbols.specs.Costs.{started}
 use Rattle.symbols.proofs.Bounds.{MarkOrUpTo, up-to-below, reached-up-to, started-bounded}
 use Rattle.trellis.specs.declared.ConvCode.{ConvCode}
-use Rattle.streaming.specs.Stream.{State, turns, stepped, newMets, normalised, fresh, fed}
+use Rattle.streaming_steps.specs.Steps.{turns, stepped, newMets, normalised}
+use Rattle.streaming.specs.Stream.{State, fresh, fed}
 use Rattle.streaming.specs.Run.{Symbol, after}
 use Rattle.streaming.specs.Life.{Good, AllGood, afterFresh, metricBound}
 use Rattle.streaming.proofs.Counters.{turn-after}

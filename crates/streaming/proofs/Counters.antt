@@ -11,7 +11,8 @@ use borrow.Author.Tests.{ltb-true, ltb-false, lt-ltb, le-ltb}
 use lib.Dec.{ltb}
 use lib.ListN.{length, replicate, length-append, length-replicate}
 use Rattle.trellis.specs.declared.ConvCode.{ConvCode}
-use Rattle.streaming.specs.Stream.{State, turns, fresh, fed, given, bitBehind}
+use Rattle.streaming_steps.specs.Steps.{turns}
+use Rattle.streaming.specs.Stream.{State, fresh, fed, given, bitBehind}
 use Rattle.streaming.specs.Run.{Symbol, nought, after, runGives, flushed, flushGives}
 use Rattle.streaming.specs.Life.{afterFresh}
 use Rattle.streaming.proofs.Running.{after-both, flush-is-run, flush-gives-run}

@@ -20,11 +20,12 @@ use Rattle.refusal.proofs.Over.{writes-refused, writes-accepted}
 use Rattle.refusal.proofs.Told.{refused-when, passed-when}
 use Rattle.trellis.specs.Choice.{k5}
 use Rattle.trellis.specs.declared.ConvCode.{ConvCode}
-use Rattle.streaming.specs.declared.Front.{Front}
+use Rattle.streaming_steps.specs.declared.Front.{Front}
+use Rattle.streaming_steps.specs.Steps.{lag}
 use Rattle.streaming.specs.Stream.{State, bitBehind}
 use Rattle.streaming.specs.Run.{nought, after, runGives, flushed, flushGives}
 use Rattle.streaming.specs.Said.{flushSaid, flushLeaves}
-use Rattle.streaming.specs.Decoder.{lag, stateOf}
+use Rattle.streaming.specs.Decoder.{stateOf}
 use Rattle.streaming.specs.Inner.{Advances, FlushesLent}
 use Rattle.streaming.proofs.OneSymbol.{none-given, one-given}
 use Rattle.streaming.proofs.Running.{Ran, ran-none, ran-more, flush-is-run, flush-gives-run}

@@ -47,11 +47,11 @@ use denote.Triple.Clauses.{Ended, Clauses, Lasts, atExit, lasts, closing}
 use denote.Triple.Entry.{Res, alive}
 use denote.Triple.Spec.{tripleOf}
 use Rattle.trellis.specs.Choice.{k5}
-use Rattle.streaming.specs.declared.Front.{Front}
+use Rattle.streaming_steps.specs.declared.Front.{Front}
+use Rattle.streaming_steps.specs.Steps.{rowsKept}
 use Rattle.streaming.specs.declared.StreamingViterbi.{StreamingViterbi}
-use Rattle.streaming.specs.Stream.{rowsKept}
-use Rattle.streaming.proofs.Front as front
-use Rattle.streaming.proofs.Front.Laws as front-laws
+use Rattle.streaming_steps.proofs.Front as front
+use Rattle.streaming_steps.proofs.Front.Laws as front-laws
 use Rattle.streaming.proofs.StreamingViterbi as decoder
 use Rattle.streaming.proofs.StreamingViterbi.Laws as decoder-laws
 

@@ -10,7 +10,7 @@ use lib.Ieee.{Float, lt}
 use lib.ListN.{getD}
 use Rattle.f32s.proofs.Ordered.{lt-trans, lt-irrefl}
 use Rattle.butterflies.specs.Smallest.{mark}
-use Rattle.streaming.specs.Stream.{leastOf}
+use Rattle.streaming_steps.specs.Steps.{leastOf}
 
 -- the lesser of two: neither is below it
 first-not-below : (x y : Float) → lt x (cond (lt x y) x y) ≡ false

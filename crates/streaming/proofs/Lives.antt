@@ -11,7 +11,8 @@ use lib.ListN.{length, getD, replicate}
 use Rattle.f32s.specs.Single.{zero32, within}
 use Rattle.butterflies.specs.Smallest.{mark, smallest}
 use Rattle.trellis.specs.declared.ConvCode.{ConvCode}
-use Rattle.streaming.specs.Stream.{State, turns, fresh, given, bitBehind}
+use Rattle.streaming_steps.specs.Steps.{turns}
+use Rattle.streaming.specs.Stream.{State, fresh, given, bitBehind}
 use Rattle.streaming.specs.Run.{Symbol, nought, after, flushed, flushGives}
 use Rattle.streaming.specs.Said.{feedLeaves, flushLeaves}
 use Rattle.streaming.specs.Life.{Good, AllGood, joinedBy, afterFresh, metricBound}

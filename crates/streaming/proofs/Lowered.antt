@@ -15,7 +15,7 @@ use Rattle.f32s.proofs.RangeSums.{difference-range}
 use Rattle.f32s.specs.Single.{zero32}
 use Rattle.butterflies.specs.Smallest.{mark, smallest}
 use Rattle.symbols.proofs.Bounds.{up-to-below}
-use Rattle.streaming.specs.Stream.{leastOf, lowered, normalised}
+use Rattle.streaming_steps.specs.Steps.{leastOf, lowered, normalised}
 use Rattle.streaming.proofs.Least.{Found, least-not-above, least-is-one}
 use Rattle.streaming.proofs.Plain.{scale, exact}
 

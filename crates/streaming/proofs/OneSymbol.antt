@@ -14,13 +14,15 @@ use Rattle.refusal.specs.Answer.{accepted, refused}
 use Rattle.refusal.specs.Lent.{Lent}
 use Rattle.refusal.specs.Numbers.{badComponent}
 use Rattle.trellis.specs.Choice.{k5}
+use Rattle.streaming_steps.specs.declared.Front.{Front}
+use Rattle.streaming_steps.specs.Steps.{lag, rowsKept, turns, newMets, newFroms, normalisedAt, kept}
+use Rattle.streaming_steps.specs.Inner.{SelectsNew, NormalisedAfter, Keeps}
 use Rattle.streaming.specs.declared.Emitted.the-variants as emitted
 use Rattle.streaming.specs.declared.FedLent.{FedLent}
-use Rattle.streaming.specs.declared.Front.{Front}
-use Rattle.streaming.specs.Stream.{State, turns, rowsKept, newMets, newFroms, normalisedAt, kept, fed, bitBehind, given}
+use Rattle.streaming.specs.Stream.{State, fed, bitBehind, given}
 use Rattle.streaming.specs.Said.{ofSymbol, feedSaid, feedLeaves}
-use Rattle.streaming.specs.Decoder.{lag, stateOf}
-use Rattle.streaming.specs.Inner.{SelectsNew, NormalisedAfter, Keeps, RefusesAt, Advances, FeedsLent}
+use Rattle.streaming.specs.Decoder.{stateOf}
+use Rattle.streaming.specs.Inner.{RefusesAt, Advances, FeedsLent}
 
 -- the row that the code writes to is the one of the symbols so far
 row-of-turn : (turn states : ℕ) → states * (turn % rowsKept) ≡ turn % turns % rowsKept * states

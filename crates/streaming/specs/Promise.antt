@@ -9,10 +9,10 @@ use lib.ListN.{length}
 use Rattle.refusal.specs.Answer.{Said}
 use Rattle.refusal.specs.Lent.{Lent, Writes}
 use Rattle.trellis.specs.Choice.{k5}
+use Rattle.streaming_steps.specs.Steps.{lag}
 use Rattle.streaming.specs.Stream.{State, fresh}
 use Rattle.streaming.specs.Run.{flushGives}
 use Rattle.streaming.specs.Said.{feedSaid, feedLeaves, flushSaid, flushLeaves}
-use Rattle.streaming.specs.Decoder.{lag}
 
 -- `new`: a fresh decoder
 pub record Begins (left : State) : Type 0 where

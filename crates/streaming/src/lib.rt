@@ -4,42 +4,29 @@ ghost use Prim.Native.Nat.{suc, _+_, _%_, min};
 ghost use Rattle.refusal.specs.Answer.{Counts};
 ghost use Rattle.refusal.specs.Lent.{lent};
 ghost use Rattle.trellis.specs.Choice.{k5};
-ghost use Rattle.streaming.specs.Stream.{turns, bitBehind};
+ghost use Rattle.streaming_steps.specs.Steps.{lag, turns};
+ghost use Rattle.streaming.specs.Stream.{bitBehind};
 ghost use Rattle.streaming.specs.Said.{Emits};
-ghost use Rattle.streaming.specs.Decoder.{lag, stateOf, held};
+ghost use Rattle.streaming.specs.Decoder.{stateOf, held};
 ghost use Rattle.streaming.specs.Promise.{Begins, Feeds, Flushes};
 ghost use Rattle.streaming.specs.Inner.{RefusesAt, Advances, FeedsLent, FlushesLent};
-
-mod history;
-mod metrics;
-mod sent;
-
 use butterflies::smallest::MARK;
-use history::keep;
-use history::state_behind;
-use history::top_bit;
-use metrics::normalise_after;
-use metrics::select;
 use refusal::Counted;
 use refusal::Refusal;
+use streaming_steps::Front;
+use streaming_steps::LAG;
+use streaming_steps::history::keep;
+use streaming_steps::history::state_behind;
+use streaming_steps::history::top_bit;
+use streaming_steps::metrics::normalise_after;
+use streaming_steps::metrics::select;
 use symbols::forward_pass::first_least;
-
-// How many symbols a bit comes late.
-pub const LAG: usize = 32;
 
 // Where the count of symbols stays: from then on each brings a bit.
 const FULL: u8 = (LAG + 1) as u8;
 
 // How many values the count has.
 const COUNTS: u8 = (LAG + 2) as u8;
-
-// The metrics; the symbols so far, up to one more than the lag; and the symbols so far mod 256.
-#[repr(C)]
-pub struct Front {
-    pub pm: [f32; 16],
-    pub count: u8,
-    pub turn: u8,
-}
 
 // The state: the front, and 128 rows of 16 survivors.
 #[repr(C)]

@@ -3,7 +3,7 @@ use mathlib.Core.Logic.{⊎-elim}
 use Prim.Native.Nat.{_-_}
 use native.Mathlib.Omega.{arith}
 use borrow.Author.Needs.{needs}
-use Rattle.streaming.specs.Decoder.{lag}
+use Rattle.streaming_steps.specs.Steps.{lag}
 use Rattle.streaming.proofs.Flushing.{Flushing, flushing-starts, flushing-nothing, flushing-bit}
 use Rattle.streaming.proofs.Flushing.{room-refused, flushing-ends}
 use Rattle.streaming.proofs.flush_lent.Statement.{statement}

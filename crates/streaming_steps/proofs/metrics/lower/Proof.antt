@@ -1,9 +1,9 @@
--- `streaming::metrics::lower`, by its test. Assumes nothing.
+-- `streaming_steps::metrics::lower`, by its test. Assumes nothing.
 use lib.Ieee.{lt}
 use Rattle.best_path.proofs.Candidates.{where-true, where-false}
 use Rattle.butterflies.specs.Smallest.{mark}
-use Rattle.streaming.proofs.metrics.lower.Statement.{statement}
-use Rattle.streaming.proofs.metrics.lower.Tie as tie
+use Rattle.streaming_steps.proofs.metrics.lower.Statement.{statement}
+use Rattle.streaming_steps.proofs.metrics.lower.Tie as tie
 
 returns : tie.Need-returns
 returns c = where-true (lt (c .before .args .m) mark) _ _ (c .if1 .taken)

@@ -1,10 +1,10 @@
--- `streaming::metrics::subtract_least`: the laws of a turn at what is known there. Assumes nothing.
+-- `streaming_steps::metrics::subtract_least`: the laws of a turn at what is known there. Assumes nothing.
 use Prim.Native.Nat.{_-_, _^_}
 use native.Mathlib.Omega.{arith}
 use Rattle.trellis.specs.Choice.{k5}
-use Rattle.streaming.proofs.Normal.{Lowering, lowering-starts, lowering-goes-on, lowering-ends, none-subtracted}
-use Rattle.streaming.proofs.metrics.subtract_least.Statement.{statement}
-use Rattle.streaming.proofs.metrics.subtract_least.Tie as tie
+use Rattle.streaming_steps.proofs.Normal.{Lowering, lowering-starts, lowering-goes-on, lowering-ends, none-subtracted}
+use Rattle.streaming_steps.proofs.metrics.subtract_least.Statement.{statement}
+use Rattle.streaming_steps.proofs.metrics.subtract_least.Tie as tie
 
 abbrev Inv-loop : tie.InvT-loop
 Inv-loop pm₀ least s₀ pm s = Lowering pm₀ least s pm

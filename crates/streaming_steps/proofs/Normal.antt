@@ -15,9 +15,9 @@ use Rattle.best_path.proofs.Survivors.{any-default}
 use Rattle.f32s.specs.Single.{zero32}
 use Rattle.butterflies.specs.Smallest.{mark}
 use Rattle.trellis.specs.Choice.{k5}
-use Rattle.streaming.specs.declared.Front.{Front}
-use Rattle.streaming.specs.Stream.{turns, leastOf, lowered, normalised}
-use Rattle.streaming.specs.Inner.{NormalisedAfter}
+use Rattle.streaming_steps.specs.declared.Front.{Front}
+use Rattle.streaming_steps.specs.Steps.{turns, leastOf, lowered, normalised}
+use Rattle.streaming_steps.specs.Inner.{NormalisedAfter}
 
 -- ---- the least metric
 

@@ -1,11 +1,11 @@
--- `streaming::history::state_behind`: the laws of a turn at what is known there. Assumes nothing.
+-- `streaming_steps::history::state_behind`: the laws of a turn at what is known there. Assumes nothing.
 use Prim.Native.Nat.{_-_}
 use native.Mathlib.Omega.{arith}
 use borrow.Author.Needs.{needs}
-use Rattle.streaming.specs.Decoder.{lag}
-use Rattle.streaming.proofs.Behind.{GoingBack, going-back-starts, going-back-goes-on, going-back-ends}
-use Rattle.streaming.proofs.history.state_behind.Statement.{statement}
-use Rattle.streaming.proofs.history.state_behind.Tie as tie
+use Rattle.streaming_steps.specs.Steps.{lag}
+use Rattle.streaming_steps.proofs.Back.{GoingBack, going-back-starts, going-back-goes-on, going-back-ends}
+use Rattle.streaming_steps.proofs.history.state_behind.Statement.{statement}
+use Rattle.streaming_steps.proofs.history.state_behind.Tie as tie
 
 abbrev Inv-loop : tie.InvT-loop
 Inv-loop history row s row₀ s₀ i₀ row' s' i = GoingBack history row s i row' s'

@@ -1,9 +1,9 @@
--- `streaming::metrics::normalise_after`, by its test. Assumes nothing.
+-- `streaming_steps::metrics::normalise_after`, by its test. Assumes nothing.
 use native.Mathlib.Omega.{arith}
 use borrow.Author.Needs.{needs}
-use Rattle.streaming.proofs.Normal.{normalised-when-due, as-it-came}
-use Rattle.streaming.proofs.metrics.normalise_after.Statement.{statement}
-use Rattle.streaming.proofs.metrics.normalise_after.Tie as tie
+use Rattle.streaming_steps.proofs.Normal.{normalised-when-due, as-it-came}
+use Rattle.streaming_steps.proofs.metrics.normalise_after.Statement.{statement}
+use Rattle.streaming_steps.proofs.metrics.normalise_after.Tie as tie
 
 returns : tie.Need-returns
 returns c = normalised-when-due (omega arith) (c .subtract-least .ensures)

@@ -1,9 +1,9 @@
--- `streaming::history::survivor`, by its test. Assumes nothing.
+-- `streaming_steps::history::survivor`, by its test. Assumes nothing.
 use lib.Ieee.{lt}
 use Rattle.best_path.proofs.Candidates.{where-true, where-false}
 use Rattle.butterflies.specs.Smallest.{mark}
-use Rattle.streaming.proofs.history.survivor.Statement.{statement}
-use Rattle.streaming.proofs.history.survivor.Tie as tie
+use Rattle.streaming_steps.proofs.history.survivor.Statement.{statement}
+use Rattle.streaming_steps.proofs.history.survivor.Tie as tie
 
 returns : tie.Need-returns
 returns c = where-true (lt (c .before .args .m) mark) _ _ (c .if1 .taken)

@@ -1,10 +1,10 @@
--- `streaming::history::keep`: the laws of a turn at what is known there. Assumes nothing.
+-- `streaming_steps::history::keep`: the laws of a turn at what is known there. Assumes nothing.
 use Prim.Native.Nat.{_-_, _^_}
 use native.Mathlib.Omega.{arith}
 use Rattle.trellis.specs.Choice.{k5}
-use Rattle.streaming.proofs.Kept.{Keeping, keeping-starts, keeping-goes-on, keeping-ends}
-use Rattle.streaming.proofs.history.keep.Statement.{statement}
-use Rattle.streaming.proofs.history.keep.Tie as tie
+use Rattle.streaming_steps.proofs.Kept.{Keeping, keeping-starts, keeping-goes-on, keeping-ends}
+use Rattle.streaming_steps.proofs.history.keep.Statement.{statement}
+use Rattle.streaming_steps.proofs.history.keep.Tie as tie
 
 abbrev Inv-loop : tie.InvT-loop
 Inv-loop pm froms at history₀ s₀ history s = Keeping pm froms at history₀ s history

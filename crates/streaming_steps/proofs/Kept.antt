@@ -13,8 +13,8 @@ use lib.Seq.{set-getD}
 use Rattle.best_path.proofs.Survivors.{any-default}
 use Rattle.butterflies.specs.Smallest.{mark, smallest}
 use Rattle.trellis.specs.Choice.{k5}
-use Rattle.streaming.specs.Stream.{kept}
-use Rattle.streaming.specs.Inner.{RowAt, Keeps}
+use Rattle.streaming_steps.specs.Steps.{kept}
+use Rattle.streaming_steps.specs.Inner.{RowAt, Keeps}
 
 -- the survivor of a state of metric m, and the old entry where no candidate won
 abbrev entryOf : Float → (new old : ℕ) → ℕ

@@ -1,10 +1,10 @@
--- `streaming::metrics::least_of`: the laws of a turn at what is known there. Assumes nothing.
+-- `streaming_steps::metrics::least_of`: the laws of a turn at what is known there. Assumes nothing.
 use Prim.Native.Nat.{_-_, _^_}
 use native.Mathlib.Omega.{arith}
 use Rattle.trellis.specs.Choice.{k5}
-use Rattle.streaming.proofs.Normal.{LeastBelow, least-starts, least-goes-on, least-ends}
-use Rattle.streaming.proofs.metrics.least_of.Statement.{statement}
-use Rattle.streaming.proofs.metrics.least_of.Tie as tie
+use Rattle.streaming_steps.proofs.Normal.{LeastBelow, least-starts, least-goes-on, least-ends}
+use Rattle.streaming_steps.proofs.metrics.least_of.Statement.{statement}
+use Rattle.streaming_steps.proofs.metrics.least_of.Tie as tie
 
 abbrev Inv-loop : tie.InvT-loop
 Inv-loop pm least₀ s₀ least s = LeastBelow pm s least

@@ -1,10 +1,10 @@
--- `streaming::metrics::select`: the tables are what K5 sends from its even states. Assumes nothing.
+-- `streaming_steps::metrics::select`: the tables are what K5 sends from its even states. Assumes nothing.
 use borrow.Author.Needs.{needs}
 use Rattle.symbols.proofs.Selected.{chosen-k5}
-use Rattle.streaming.specs.Stream.{stepped, newMets, newFroms}
-use Rattle.streaming.proofs.Tables.{sent-crossed}
-use Rattle.streaming.proofs.metrics.select.Statement.{statement}
-use Rattle.streaming.proofs.metrics.select.Tie as tie
+use Rattle.streaming_steps.specs.Steps.{stepped, newMets, newFroms}
+use Rattle.streaming_steps.proofs.Tables.{sent-crossed}
+use Rattle.streaming_steps.proofs.metrics.select.Statement.{statement}
+use Rattle.streaming_steps.proofs.metrics.select.Tie as tie
 
 step-requires : tie.Need-step-requires
 step-requires c κs =

@@ -6,7 +6,7 @@ ghost use Rattle.best_path.specs.Run.{inputInto};
 ghost use Rattle.butterflies.specs.Smallest.{smallest};
 ghost use Rattle.refusal.specs.Lent.{lent};
 ghost use Rattle.trellis.specs.Choice.{k5};
-ghost use Rattle.streaming.specs.Inner.{RowAt, Keeps, InHistory, LiesBehind};
+ghost use Rattle.streaming_steps.specs.Inner.{RowAt, Keeps, InHistory, LiesBehind};
 use crate::LAG;
 use butterflies::smallest::MARK;
 
