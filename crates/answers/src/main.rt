@@ -1,5 +1,5 @@
 // Reads a list of calls from standard input, makes each, and prints its answer. What it prints is held to the file
-// `stdout`, which has the Rust's answers.
+// `stdout`, which has the Rust's answers, and by the documents' rules those that the Rust cannot have.
 //
 // A line is a call: a letter for the entry, then fields that one space parts. The answer's line has the letter
 // again and the answer's fields. A line that is empty or begins with '#' has an empty line for its answer. One that

@@ -57,10 +57,11 @@ struct Coders {
     decoder: VaricodeDecoder,
 }
 
-// `m`. Prints a fresh writer's record and a fresh reader's.
+// `m`. Prints a fresh writer's record, a fresh reader's, and that of a fresh reader for pauses.
 pub fn fresh() {
     print_writer(VaricodeEncoder::new());
     print_reader(VaricodeDecoder::new());
+    print_reader(VaricodeDecoder::for_pauses());
 }
 
 // `w SLOTS HEAD COUNT FIRST STEPS`: a writer's record, and what is done with it. Prints an answer for each call,
@@ -75,14 +76,14 @@ pub fn write(line: &[u8]) {
     print_writer(after.encoder);
 }
 
-// `r SHIFT LENGTH ZERO SLOTS HEAD COUNT STEPS`: the same of a reader.
+// `r PAUSES SHIFT LENGTH ZERO SLOTS HEAD COUNT STEPS`: the same of a reader.
 pub fn read(line: &[u8]) {
     let encoder = VaricodeEncoder::new();
     let coders = Coders {
         encoder,
         decoder: reader(line),
     };
-    let after = steps(line, 7, coders);
+    let after = steps(line, 8, coders);
     print_reader(after.decoder);
 }
 
@@ -103,16 +104,17 @@ fn writer(line: &[u8]) -> VaricodeEncoder {
 
 fn reader(line: &[u8]) -> VaricodeDecoder {
     let mut slots = [0u8; 64];
-    fill(field(line, 4), &mut slots);
+    fill(field(line, 5), &mut slots);
     let chars = CharQueue {
         slots,
-        head: number(field(line, 5)) as usize,
-        count: number(field(line, 6)) as usize,
+        head: number(field(line, 6)) as usize,
+        count: number(field(line, 7)) as usize,
     };
     VaricodeDecoder {
-        shift: (number(field(line, 1)) % 0x1_0000) as u16,
-        len: byte(field(line, 2)),
-        prev_zero: number(field(line, 3)) == 1,
+        pauses: number(field(line, 1)) == 1,
+        shift: (number(field(line, 2)) % 0x1_0000) as u16,
+        len: byte(field(line, 3)),
+        prev_zero: number(field(line, 4)) == 1,
         chars,
     }
 }
@@ -256,8 +258,10 @@ fn print_writer(encoder: VaricodeEncoder) {
     print_number(encoder.first as u64, 1);
 }
 
-// Prints a record: the word's bits, its length, whether the last was a zero, the slots, the head, the count.
+// Prints a record: whether it is for pauses, the word's bits, its length, whether the last was a zero, the slots, the
+// head, the count.
 fn print_reader(decoder: VaricodeDecoder) {
+    print_number(decoder.pauses as u64, 1);
     print_number(decoder.shift as u64, 4);
     print_number(decoder.len as u64, 2);
     print_number(decoder.prev_zero as u64, 1);

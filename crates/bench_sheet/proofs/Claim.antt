@@ -10,7 +10,7 @@ use Rattle.correlation.specs.Decode.{word, score}
 use Rattle.trellis.specs.Choice.{codeOf, patternOf}
 use Rattle.trellis.specs.Codeword.{codeword}
 use Rattle.trellis.specs.State.{nextState}
-use Rattle.varicode.specs.Reader.{lettersFrom}
+use Rattle.varicode.specs.Reader.{zeroEnds, lettersFrom}
 use Rattle.varicode.specs.Writer.{streamFrom}
 use Rattle.varicode_words.specs.Word.{wordOf, bitsOf, decodeOf}
 use Rattle.bench_sheet.specs.Sheet.{SheetLine, reads, AllHold, none, more, sheet}
@@ -21,8 +21,8 @@ abbrev lineAt : ℕ → SheetLine
 lineAt n = getD sheet n (reads [] [])
 
 pub claim : AllHold sheet
-unfolding agreement codeword codeOf patternOf lettersFrom streamFrom word score wordOf decodeOf bitsOf ones nextState ofBits add sub neg lt
-    le
+unfolding agreement codeword codeOf patternOf zeroEnds lettersFrom streamFrom word score wordOf decodeOf bitsOf ones nextState ofBits add
+    sub neg lt le
 claim =
     more (holds (lineAt 0) refl)
     (more (holds (lineAt 1) refl)
@@ -40,4 +40,5 @@ claim =
     (more (holds (lineAt 13) refl)
     (more (holds (lineAt 14) refl)
     (more (holds (lineAt 15) refl)
-    none)))))))))))))))
+    (more (holds (lineAt 16) refl)
+    none))))))))))))))))

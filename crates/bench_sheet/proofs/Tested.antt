@@ -1,6 +1,6 @@
 -- A line of the sheet, tested: what is computed for it and what the sheet says, number by number. A line that passes holds.
 -- Assumes nothing.
-use mathlib.Core.Bool.{true}
+use mathlib.Core.Bool.{true, false}
 use mathlib.Core.List.{List, [], _∷_, map}
 use mathlib.Core.Path.{_≡_, sym, subst}
 use Prim.Native.Nat.{ℕ}
@@ -14,7 +14,7 @@ use Rattle.trellis.specs.Keep.{codedLength}
 use Rattle.varicode_words.proofs.Table.{same, same-equal}
 use Rattle.varicode.specs.Reader.{nothingHeard, lettersFrom}
 use Rattle.varicode.specs.Writer.{byte, streamFrom}
-use Rattle.bench_sheet.specs.Sheet.{SheetLine, coded, lengths, decodes, scores, ties, writes, reads, Holds}
+use Rattle.bench_sheet.specs.Sheet.{SheetLine, coded, lengths, decodes, scores, ties, writes, reads, readsPauses, Holds}
 
 -- lists that the test finds the same are equal
 equal : (xs ys : List ℕ) → same xs ys ≡ true → xs ≡ ys
@@ -30,7 +30,8 @@ Passes (scores code rate count heard is) = score (codeOf code) (patternOf code r
 Passes (ties code rate count whole u v) =
     scoreOf (codeOf code) (patternOf code rate) count u whole ≡ scoreOf (codeOf code) (patternOf code rate) count v whole
 Passes (writes text bits) = same (streamFrom true (map byte text)) bits ≡ true
-Passes (reads bits text) = same (lettersFrom nothingHeard bits) text ≡ true
+Passes (reads bits text) = same (lettersFrom false nothingHeard bits) text ≡ true
+Passes (readsPauses bits text) = same (lettersFrom true nothingHeard bits) text ≡ true
 
 pub holds : (line : SheetLine) → Passes line → Holds line
 holds (coded code rate info bits) e = equal _ bits e
@@ -40,3 +41,4 @@ holds (scores code rate count heard is) e = e
 holds (ties code rate count whole u v) e = e
 holds (writes text bits) e = equal _ bits e
 holds (reads bits text) e = equal _ text e
+holds (readsPauses bits text) e = equal _ text e

@@ -1,5 +1,5 @@
--- The lines of document 01's bench sheet that it marks P, as one table. Definitions only.
-use mathlib.Core.Bool.{true}
+-- The lines of document 01's bench sheet that it marks P, and those that requests add, as one table. Definitions only.
+use mathlib.Core.Bool.{true, false}
 use mathlib.Core.List.{List, [], _∷_, map}
 use mathlib.Core.Path.{_≡_}
 use Prim.Native.Nat.{ℕ}
@@ -17,7 +17,7 @@ use Rattle.varicode.specs.Writer.{byte, streamFrom}
 
 -- a line: the coded bits of an info word at a rate; the coded lengths of an info count at the five rates; the word, and
 -- the score, that readings are decoded to; two words that score the same; the bits that a fresh writer puts for a text;
--- the characters that a fresh reader takes from bits
+-- the characters that a fresh reader takes from bits, and those that a fresh reader for pauses does
 pub data SheetLine : Type 0 where
   coded : (code rate : ℕ) (info bits : List ℕ) → SheetLine
   lengths : (code count : ℕ) (atRates : List ℕ) → SheetLine
@@ -26,6 +26,7 @@ pub data SheetLine : Type 0 where
   ties : (code rate count : ℕ) (whole : List ℤ) (u v : List ℕ) → SheetLine
   writes : (text bits : List ℕ) → SheetLine
   reads : (bits text : List ℕ) → SheetLine
+  readsPauses : (bits text : List ℕ) → SheetLine
 
 abbrev pub Holds : SheetLine → Type 0
 Holds (coded code rate info bits) = codeword (codeOf code) (patternOf code rate) info ≡ bits
@@ -38,7 +39,8 @@ Holds (ties code rate count whole u v) =
     scoreOf (codeOf code) (patternOf code rate) count u whole
     ≡ scoreOf (codeOf code) (patternOf code rate) count v whole
 Holds (writes text bits) = streamFrom true (map byte text) ≡ bits
-Holds (reads bits text) = lettersFrom nothingHeard bits ≡ text
+Holds (reads bits text) = lettersFrom false nothingHeard bits ≡ text
+Holds (readsPauses bits text) = lettersFrom true nothingHeard bits ≡ text
 
 -- every line of a list holds
 pub data AllHold : List SheetLine → Type 0 where
@@ -87,4 +89,5 @@ sheet =
     ∷ reads (0 ∷ 1 ∷ 1 ∷ 0 ∷ 0 ∷ []) []
     ∷ reads (0 ∷ 0 ∷ 1 ∷ 1 ∷ 0 ∷ 0 ∷ []) (e ∷ [])
     ∷ reads (0 ∷ 1 ∷ 0 ∷ 1 ∷ 0 ∷ 1 ∷ 0 ∷ 1 ∷ 0 ∷ 1 ∷ 1 ∷ 0 ∷ 0 ∷ []) (0 ∷ [])
+    ∷ readsPauses (0 ∷ 1 ∷ 1 ∷ 0 ∷ 0 ∷ []) (e ∷ [])
     ∷ []

@@ -29,7 +29,7 @@ pub fn is_call(line: &[u8]) -> bool {
         b'u' => fits(line, b"qHbbs"),
         b'v' | b'd' => fits(line, b"b"),
         b'w' => begins(line, b"Qnno", 5),
-        b'r' => begins(line, b"xboqnn", 7),
+        b'r' => begins(line, b"oxboqnn", 8),
         b'n' | b'm' => line.len() == 1,
         _ => false,
     }

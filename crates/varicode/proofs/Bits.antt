@@ -1,5 +1,5 @@
 -- The ways of a bit that is pushed: refused, joining the word, or ending it. Assumes nothing.
-use mathlib.Core.Bool.{true, false}
+use mathlib.Core.Bool.{Bool, true, false}
 use mathlib.Core.List.{List, [], _∷_}
 use mathlib.Core.Path.{_≡_, refl, ap, ap₂, _∙_}
 use Prim.Native.Nat.{ℕ, _+_, _-_, _/_, _%_, _≤_, _<_}
@@ -17,12 +17,16 @@ use Rattle.varicode.specs.declared.reader.Pushed.{Pushed}
 use Rattle.varicode.specs.Records.{reader}
 use Rattle.varicode.specs.Promise.{Pushes}
 use Rattle.varicode.specs.Inner.{Joins, Forgets}
-use Rattle.varicode.specs.Reader.{Heard, nothingHeard, ends, letterAt, heardAfter, readHeard}
+use Rattle.varicode.specs.Reader.{Heard, nothingHeard, zeroEnds, ends, letterAt, heardAfter, readHeard}
 use Rattle.varicode.specs.Reader.{Reader, brought, noRoom, withLetter, bitSaid, bitLeaves}
 use Rattle.varicode.proofs.Takes.{room-for-one}
 
-abbrev made : Heard → Ring → Reader
-made h q = record { heard = h; chars = q }
+-- a reader of these parts
+abbrev pub made : Bool → Heard → Ring → Reader
+made p h q = record { pauses = p; heard = h; chars = q }
+
+made-same : {p p' : Bool} {h h' : Heard} {q q' : Ring} → p ≡ p' → h ≡ h' → q ≡ q' → made p h q ≡ made p' h' q'
+made-same {p} {p'} {h} {h'} {q} {q'} e f g = ap (λ (x : Bool). made x h q) e ∙ ap₂ (made p') f g
 
 -- a bit above 1
 pub pushes-bad :
@@ -50,7 +54,8 @@ module _ (q p : Ring) (read : q ≡ readAs charRoom p) (c : ℕ) where
 
 -- ---- a bit that ends no word joins it
 
-module _ (d : VaricodeDecoder) (b : ℕ) (r : Pushed) (bit : b ≤ 1) (goes-on : ends (readHeard (reader d .heard)) b ≡ false) where
+module _
+    (d : VaricodeDecoder) (b : ℕ) (r : Pushed) (bit : b ≤ 1) (goes-on : ends (d .pauses) (readHeard (reader d .heard)) b ≡ false) where
   brings-nothing : brought (reader d) b ≡ []
   unfolding brought letterAt
   brings-nothing = rw goes-on
@@ -62,21 +67,21 @@ module _ (d : VaricodeDecoder) (b : ℕ) (r : Pushed) (bit : b ≤ 1) (goes-on :
       let free = room-for-nothing (chars (d .chars)) in
       record {
         answer = a ∙ rw (good, brings-nothing, free);
-        state = ap₂ made (j .heard) (ap chars (j .chars)) ∙ rw (good, brings-nothing, free, goes-on);
+        state = made-same (j .pauses) (j .heard) (ap chars (j .chars)) ∙ rw (good, brings-nothing, free, goes-on);
       }
 
--- ---- the second zero of a gap ends it
+-- ---- a zero that ends it
 
 module _
-    (d : VaricodeDecoder) (r : Pushed) (zero-before : d .«prev_zero» ≡ true) (letter : List ℕ)
+    (d : VaricodeDecoder) (r : Pushed) (ending : zeroEnds (d .pauses) (readHeard (reader d .heard)) ≡ true) (letter : List ℕ)
     (looked-up : letter ≡ decodeOf (d .shift / 2) (d .len % 12 - 1)) where
   brings : brought (reader d) 0 ≡ letter
   unfolding brought letterAt
-  brings = rw (zero-before, looked-up)
+  brings = rw (ending, looked-up)
 
-  forgets : heardAfter (readHeard (reader d .heard)) 0 ≡ nothingHeard
+  forgets : heardAfter (d .pauses) (readHeard (reader d .heard)) 0 ≡ nothingHeard
   unfolding heardAfter
-  forgets = rw zero-before
+  forgets = rw ending
 
   pushes-refused : noRoom letter (chars (d .chars)) ≡ true → doneSaid (r .answer) ≡ refused queueFull 0 → r .decoder ≡ d → Pushes d 0 r
   unfolding bitSaid bitLeaves
@@ -84,28 +89,29 @@ module _
 
   pushes-letter :
       noRoom letter (chars (d .chars)) ≡ false → (q : CharQueue) → chars q ≡ withLetter letter (chars (d .chars)) →
-      doneSaid (r .answer) ≡ accepted tt → Forgets q (r .decoder) → Pushes d 0 r
+      doneSaid (r .answer) ≡ accepted tt → Forgets d q (r .decoder) → Pushes d 0 r
   unfolding bitSaid bitLeaves
   pushes-letter free q behind a f =
       record {
         answer = a ∙ rw (brings, free);
-        state = ap₂ made (f .heard) (ap chars (f .chars) ∙ behind) ∙ rw (brings, free, forgets);
+        state = made-same (f .pauses) (f .heard) (ap chars (f .chars) ∙ behind) ∙ rw (brings, free, forgets);
       }
 
-module _ (d : VaricodeDecoder) (r : Pushed) (zero-before : d .«prev_zero» ≡ true) where
+module _ (d : VaricodeDecoder) (r : Pushed) (ending : zeroEnds (d .pauses) (readHeard (reader d .heard)) ≡ true) where
   pub pushes-nothing :
-      [] ≡ decodeOf (d .shift / 2) (d .len % 12 - 1) → doneSaid (r .answer) ≡ accepted tt → Forgets (d .chars) (r .decoder) → Pushes d 0 r
-  pushes-nothing none a f = pushes-letter d r zero-before [] none (room-for-nothing (chars (d .chars))) (d .chars) refl a f
+      [] ≡ decodeOf (d .shift / 2) (d .len % 12 - 1) → doneSaid (r .answer) ≡ accepted tt →
+      Forgets d (d .chars) (r .decoder) → Pushes d 0 r
+  pushes-nothing none a f = pushes-letter d r ending [] none (room-for-nothing (chars (d .chars))) (d .chars) refl a f
 
   module _
       (c : ℕ) (one : c ∷ [] ≡ decodeOf (d .shift / 2) (d .len % 12 - 1)) (q : Ring) (read : q ≡ readAs charRoom (chars (d .chars))) where
     pub pushes-full : q .count ≡ charRoom → doneSaid (r .answer) ≡ refused queueFull 0 → r .decoder ≡ d → Pushes d 0 r
-    pushes-full full a s = pushes-refused d r zero-before (c ∷ []) one (no-room-when-full q (chars (d .chars)) read c full) a s
+    pushes-full full a s = pushes-refused d r ending (c ∷ []) one (no-room-when-full q (chars (d .chars)) read c full) a s
 
     pub pushes-byte :
         (q .count ≡ charRoom → ⊥) → (more : CharQueue) → chars more ≡ putOne charRoom q c → doneSaid (r .answer) ≡ accepted tt →
-        Forgets more (r .decoder) → Pushes d 0 r
+        Forgets d more (r .decoder) → Pushes d 0 r
     unfolding putAll
     pushes-byte free more put a f =
-        pushes-letter d r zero-before (c ∷ []) one (room-when-free q (chars (d .chars)) read c free) more
+        pushes-letter d r ending (c ∷ []) one (room-when-free q (chars (d .chars)) read c free) more
         (put ∙ ap (λ (p : Ring). putOne charRoom p c) read) a f

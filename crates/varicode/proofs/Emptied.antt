@@ -1,5 +1,5 @@
 -- A reader from which everything was taken out refuses no bit, so that bits can all be pushed, one after the other. Assumes nothing.
-use mathlib.Core.Bool.{false}
+use mathlib.Core.Bool.{Bool, false}
 use mathlib.Core.List.{List, [], _∷_, _++_, append-assoc, append-nil}
 use mathlib.Core.Path.{_≡_, refl, sym, subst}
 use Prim.Native.Nat.{ℕ, zero, suc, _+_, _-_, _/_, _≤_}
@@ -16,9 +16,9 @@ use Rattle.varicode.proofs.Queues.{front-taken, one-fewer}
 use Rattle.varicode.proofs.ReaderRuns.{reader-holds}
 
 -- a bit brings one character at most
-few-letters : (h : Heard) (b : ℕ) → length (letterAt h b) ≤ 1
+pub few-letters : (p : Bool) (h : Heard) (b : ℕ) → length (letterAt p h b) ≤ 1
 unfolding letterAt
-few-letters h b = either-few _ [] (few-decoded (h .shift / 2) (h .len - 1)) (omega arith) (ends h b)
+few-letters p h b = either-few _ [] (few-decoded (h .shift / 2) (h .len - 1)) (omega arith) (ends p h b)
 
 one-fits : (letter : List ℕ) (q : Ring) → length letter ≤ 1 → q .count ≡ 0 → noRoom letter q ≡ false
 unfolding noRoom
@@ -28,31 +28,32 @@ pub emptied-refuses-none : (r : Reader) (b : ℕ) → r .chars .count ≡ 0 → 
 unfolding bitSaid brought
 emptied-refuses-none r b none bit =
     let good = le-ltb 1 b bit in
-    let free = one-fits (letterAt (readHeard (r .heard)) b) (r .chars) (few-letters (readHeard (r .heard)) b) none in
+    let heard = readHeard (r .heard) in
+    let free = one-fits (letterAt (r .pauses) heard b) (r .chars) (few-letters (r .pauses) heard b) none in
     rw (good, free)
 
 -- a run of these bits after which nothing is left
-pub record Emptied (bits : List ℕ) : Type 0 where
+pub record Emptied (p : Bool) (bits : List ℕ) : Type 0 where
   pub reader : Reader
   pub got : List ℕ
-  pub read : ReaderRun reader bits got
+  pub read : ReaderRun p reader bits got
   pub none : reader .chars .count ≡ 0
 
-emptied-of : (n : ℕ) {r : Reader} {bits out : List ℕ} → ReaderRun r bits out → r .chars .count ≡ n → Emptied bits
-emptied-of zero {r} {bits} {out} run e = record { reader = r; got = out; read = run; none = e }
-emptied-of (suc n) {r} {bits} {out} run e =
+emptied-of : (n : ℕ) {p : Bool} {r : Reader} {bits out : List ℕ} → ReaderRun p r bits out → r .chars .count ≡ n → Emptied p bits
+emptied-of zero {p} {r} {bits} {out} run e = record { reader = r; got = out; read = run; none = e }
+emptied-of (suc n) {p} {r} {bits} {out} run e =
     let within = reader-holds run .in-range in
     emptied-of n (takes run (front (r .chars)) (front-taken within e)) (one-fewer within e)
 
 -- after each run everything can be taken out
-pub run-emptied : {r : Reader} {bits out : List ℕ} → ReaderRun r bits out → Emptied bits
+pub run-emptied : {p : Bool} {r : Reader} {bits out : List ℕ} → ReaderRun p r bits out → Emptied p bits
 run-emptied run = emptied-of _ run refl
 
-all-more : (before bits : List ℕ) → Emptied before → Bits bits → Emptied (before ++ bits)
-all-more before [] e are = subst Emptied (sym (append-nil before)) e
-all-more before (b ∷ bits) e (more bit are) =
-    subst Emptied (append-assoc before (b ∷ []) bits)
+all-more : {p : Bool} (before bits : List ℕ) → Emptied p before → Bits bits → Emptied p (before ++ bits)
+all-more {p} before [] e are = subst (Emptied p) (sym (append-nil before)) e
+all-more {p} before (b ∷ bits) e (more bit are) =
+    subst (Emptied p) (append-assoc before (b ∷ []) bits)
     (all-more (before ++ b ∷ []) bits (run-emptied (feeds (e .read) b (emptied-refuses-none (e .reader) b (e .none) (omega arith)))) are)
 
-pub bits-emptied : (bits : List ℕ) → Bits bits → Emptied bits
-bits-emptied bits are = all-more [] bits (run-emptied start) are
+pub bits-emptied : (p : Bool) (bits : List ℕ) → Bits bits → Emptied p bits
+bits-emptied p bits are = all-more [] bits (run-emptied start) are

@@ -1,7 +1,8 @@
 -- Puts: the calls that put bits. Takes, Queues: taking out. Bits: the ways of a bit that is pushed. WriterRuns, ReaderRuns: calls
 -- one after the other. Streams: what a writer puts are bits. Words: a word and its gap, read from nothing heard. Back: what a text's
--- stream reads as. Drained, Emptied: a writer and a reader that refuse nothing. Premise: read-back's premise can be met. Unique: each
--- contract allows one outcome at most.
+-- stream reads as. Pauses: pauses of any length, and where both readers bring the same. Third: a character takes three bits. Drained,
+-- Emptied: a writer and a reader that refuse nothing. Waits: a refused bit waits. Premise: the premises can be met. Unique: each contract
+-- allows one outcome at most.
 pub mod Puts
 pub mod Takes
 pub mod Bits
@@ -11,7 +12,10 @@ pub mod ReaderRuns
 pub mod Streams
 pub mod Words
 pub mod Back
+pub mod Pauses
+pub mod Third
 pub mod Drained
 pub mod Emptied
+pub mod Waits
 pub mod Premise
 pub mod Unique

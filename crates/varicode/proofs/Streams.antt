@@ -12,7 +12,7 @@ pub append-bits : {xs ys : List ℕ} → Bits xs → Bits ys → Bits (xs ++ ys)
 append-bits none s = s
 append-bits (more h r) s = more h (append-bits r s)
 
-run-bits : (n b : ℕ) → b < 2 → Bits (replicate n b)
+pub run-bits : (n b : ℕ) → b < 2 → Bits (replicate n b)
 run-bits zero b h = none
 run-bits (suc n) b h = more h (run-bits n b h)
 

@@ -21,6 +21,7 @@ use Rattle.varicode.proofs.writer.VaricodeEncoder.push_byte.Reads as pu
 use Rattle.varicode.proofs.writer.VaricodeEncoder.push_postamble.Reads as push-postamble
 use Rattle.varicode.proofs.writer.VaricodeEncoder.next_bit.Reads as next-bit
 use Rattle.varicode.proofs.reader.VaricodeDecoder.new.Reads as new-decoder
+use Rattle.varicode.proofs.reader.VaricodeDecoder.for_pauses.Reads as for-pauses
 use Rattle.varicode.proofs.reader.VaricodeDecoder.push_bit.Reads as push-bit
 use Rattle.varicode.proofs.reader.VaricodeDecoder.pop_char.Reads as pop-char
 
@@ -83,6 +84,7 @@ next-bit-determined κs given r r' left left' p q =
 abbrev decoderOf : Reader → VaricodeDecoder
 decoderOf r =
     record {
+      pauses = r .pauses;
       shift = r .heard .shift;
       len = r .heard .len;
       «prev_zero» = r .heard .prevZero;
@@ -96,6 +98,11 @@ pub new-decoder-determined :
     (κs : _) (given : _) (r r' : VaricodeDecoder) (left left' : _) →
     new-decoder.Post κs given r left → new-decoder.Post κs given r' left' → r ≡ r'
 new-decoder-determined κs given r r' left left' p q = reader-told r r' (p ∙ sym q)
+
+pub for-pauses-determined :
+    (κs : _) (given : _) (r r' : VaricodeDecoder) (left left' : _) →
+    for-pauses.Post κs given r left → for-pauses.Post κs given r' left' → r ≡ r'
+for-pauses-determined κs given r r' left left' p q = reader-told r r' (p ∙ sym q)
 
 abbrev pushed : Put → VaricodeDecoder → Pushed
 pushed a d = record { answer = a; decoder = d }

@@ -1,103 +1,186 @@
--- Reading a word and its gap from nothing heard: the word is looked up, and nothing is heard again. Over any word of at most ten bits that
--- holds no 00 and ends with 1. Assumes nothing.
-use mathlib.Core.Bool.{Bool, true, false}
-use mathlib.Core.List.{List, [], _∷_, _++_, append-assoc, append-nil}
+-- Reading a word and its gap from nothing heard, in either reader, bit by bit: the second zero brings what the word is looked up as, no
+-- other bit brings anything, and nothing is heard again. Over any sound word, of any length; one of over ten bits brings nothing.
+-- Assumes nothing.
+use mathlib.Core.Bool.{Bool, true, false, and-false, or-false}
+use mathlib.Core.List.{List, [], _∷_, _++_, append-assoc}
+use mathlib.Core.Logic.{⊎-elim}
 use mathlib.Core.Path.{_≡_, refl, sym, ap, _∙_}
-use Prim.Native.Nat.{ℕ, zero, suc, _+_, _-_, _*_, _/_, _%_, min, _≤_, _<_}
-use native.Mathlib.Nat.{mod-eq-of-lt, lt-of-lt-of-le, min-eq-left}
+use Prim.Native.Nat.{ℕ, zero, suc, _+_, _-_, _*_, _/_, _%_, min, _<_}
+use native.Mathlib.Nat.{mod-eq-of-lt, lt-of-lt-of-le, eq-zero-or-pos}
+use native.Mathlib.Numerals.{add-one}
 use native.Mathlib.Omega.{arith}
-use lib.Dec.{eqb, lit<}
+use borrow.Author.Tests.{ne-eqb}
+use lib.Dec.{eqb}
 use lib.ListN.{length, replicate, length-append}
 use lib.Pow.{pow-mono}
 use Rattle.binary.specs.Digits.{value}
-use Rattle.binary.proofs.Values.{Bits, none, more, value-below, value-snoc}
-use Rattle.varicode_words.specs.Word.{lengthOf, decodeOf}
-use Rattle.varicode.specs.Reader.{Heard, nothingHeard, letterAt, heardAfter, lettersFrom}
-use Rattle.varicode.proofs.Streams.{append-bits}
+use Rattle.binary.proofs.Values.{value-below, value-snoc}
+use Rattle.varicode_words.specs.Word.{decodeOf}
+use Rattle.varicode_words.proofs.NoWord.{decode-no-bits, sound-bits, long-no-word, long-low-no-word}
+use Rattle.varicode_words.proofs.Sound.{Sound, one, after-one, after-gap, sound-some}
+use Rattle.varicode.specs.Reader.{Heard, nothingHeard, zeroEnds, letterAt, joinedTo, heardAfter, bringsFrom, concat, lettersFrom}
 
--- the rest of a word, after a zero or not: no 00, and its last bit is 1
-pub data Rest : Bool → List ℕ → Type 0 where
-  done : Rest false []
-  zero-bit : {bs : List ℕ} → Rest true bs → Rest false (0 ∷ bs)
-  one-bit : {z : Bool} {bs : List ℕ} → Rest false bs → Rest z (1 ∷ bs)
+-- ---- when a zero ends the word
 
--- what is heard of the part of a word that has passed
+module _ (p : Bool) (h : Heard) where
+  pub ends-after-zero : h .prevZero ≡ true → zeroEnds p h ≡ true
+  unfolding zeroEnds
+  ends-after-zero after = rw after
+
+  module _ (after : h .prevZero ≡ false) where
+    pub ends-while-nothing-heard : p ≡ true → zeroEnds p h ≡ eqb (h .len) 0
+    unfolding zeroEnds
+    ends-while-nothing-heard pauses = rw (after, pauses)
+
+    pub ends-after-zero-alone : p ≡ false → zeroEnds p h ≡ false
+    unfolding zeroEnds
+    ends-after-zero-alone old = rw (after, old)
+
+    pub goes-on-in-a-word : 0 < h .len → zeroEnds p h ≡ false
+    unfolding zeroEnds
+    goes-on-in-a-word some = rw (after, ne-eqb (h .len) 0 (λ e. omega arith)) (and-false p)
+
+-- document 01's reader
+pub old-ends : (h : Heard) → zeroEnds false h ≡ h .prevZero
+unfolding zeroEnds
+old-ends h = or-false (h .prevZero)
+
+-- ---- what is heard of the part of a word that has passed: its lowest sixteen bits, and its length up to 11
+
 abbrev heardOf : List ℕ → Bool → Heard
-heardOf part z = record { shift = value part; len = length part; prevZero = z }
+heardOf part z = record { shift = value part % 65536; len = min (length part) 11; prevZero = z }
 
-snoc-bits : (part : List ℕ) (b : ℕ) → Bits part → b < 2 → Bits (part ++ b ∷ [])
-snoc-bits part b are bit = append-bits are (more bit none)
+joined : (part : List ℕ) (z : Bool) (b : ℕ) → joinedTo (heardOf part z) b ≡ heardOf (part ++ b ∷ []) (eqb b 0)
+joined part z b =
+    let shift : (2 * (value part % 65536) + b) % 65536 ≡ value (part ++ b ∷ []) % 65536 = rw (value-snoc part b) (omega arith) in
+    let count : min (min (length part) 11 + 1) 11 ≡ min (length (part ++ b ∷ [])) 11 = omega (arith, length-append part (b ∷ [])) in
+    rw (shift, count)
 
--- a bit that joins
-module _ (part : List ℕ) (b : ℕ) (are : Bits part) (bit : b < 2) (short : length part ≤ 10) where
-  length-snoc : length (part ++ b ∷ []) ≡ length part + 1
-  length-snoc = length-append part (b ∷ [])
+-- ---- what the bits bring
 
-  shift-joined : (2 * value part + b) % 65536 ≡ value (part ++ b ∷ [])
-  shift-joined =
-      let small : value (part ++ b ∷ []) < 65536 =
-      lt-of-lt-of-le (value-below (snoc-bits part b are bit)) (pow-mono {j = 16} (omega (arith, length-snoc))) in
-      rw (sym (value-snoc part b)) (mod-eq-of-lt small)
+abbrev nothing-then : List (List ℕ) → List (List ℕ)
+nothing-then brings = [] ∷ brings
 
-  joined : Heard
-  joined = record { shift = (2 * value part + b) % 65536; len = min (length part + 1) 11; prevZero = eqb b 0 }
+module _ (p : Bool) where
+  one-joins :
+      (part : List ℕ) (z : Bool) (tail : List ℕ) →
+      bringsFrom p (heardOf part z) (1 ∷ tail) ≡ [] ∷ bringsFrom p (heardOf (part ++ 1 ∷ []) false) tail
+  unfolding bringsFrom letterAt heardAfter
+  one-joins part z tail = ap (λ (h : Heard). [] ∷ bringsFrom p h tail) (joined part z 1)
 
-  heard-joined : joined ≡ heardOf (part ++ b ∷ []) (eqb b 0)
-  unfolding joined
-  heard-joined =
-      let counted : min (length part + 1) 11 ≡ length part + 1 = min-eq-left (omega arith) in
-      rw (shift-joined, length-snoc, counted)
+  zero-joins :
+      (part tail : List ℕ) → 0 < length part →
+      bringsFrom p (heardOf part false) (0 ∷ tail) ≡ [] ∷ bringsFrom p (heardOf (part ++ 0 ∷ []) true) tail
+  unfolding bringsFrom letterAt heardAfter
+  zero-joins part tail some =
+      rw (goes-on-in-a-word p (heardOf part false) refl (omega arith))
+      (ap (λ (h : Heard). [] ∷ bringsFrom p h tail) (joined part false 0))
 
--- a one joins, and a zero after no zero does; neither brings a letter
-one-joins :
-    (part : List ℕ) (z : Bool) (tail : List ℕ) → Bits part → length part ≤ 10 →
-    lettersFrom (heardOf part z) (1 ∷ tail) ≡ lettersFrom (heardOf (part ++ 1 ∷ []) false) tail
-unfolding lettersFrom letterAt heardAfter joined
-one-joins part z tail are short = ap (λ (h : Heard). lettersFrom h tail) (heard-joined part 1 are (lit< tt) short)
+  -- a sound word joins what has passed
+  word-joins :
+      {word : List ℕ} → Sound word → (part : List ℕ) (z : Bool) (tail : List ℕ) →
+      bringsFrom p (heardOf part z) (word ++ tail) ≡ replicate (length word) [] ++ bringsFrom p (heardOf (part ++ word) false) tail
+  word-joins one part z tail = one-joins part z tail
+  word-joins (after-one {bs} s) part z tail =
+      one-joins part z (bs ++ tail)
+      ∙ ap nothing-then
+      (word-joins s (part ++ 1 ∷ []) false tail
+      ∙ ap (λ (l : List ℕ). replicate (length bs) [] ++ bringsFrom p (heardOf l false) tail) (append-assoc part (1 ∷ []) bs))
+  word-joins (after-gap {bs} s) part z tail =
+      let begun = part ++ 1 ∷ [] in
+      one-joins part z (0 ∷ (bs ++ tail))
+      ∙ ap nothing-then
+      (zero-joins begun (bs ++ tail) (omega (arith, length-append part (1 ∷ [])))
+      ∙ ap nothing-then
+      (word-joins s (begun ++ 0 ∷ []) true tail
+      ∙ ap (λ (l : List ℕ). replicate (length bs) [] ++ bringsFrom p (heardOf l false) tail)
+      (append-assoc begun (0 ∷ []) bs ∙ append-assoc part (1 ∷ []) (0 ∷ bs))))
 
-zero-joins :
-    (part tail : List ℕ) → Bits part → length part ≤ 10 →
-    lettersFrom (heardOf part false) (0 ∷ tail) ≡ lettersFrom (heardOf (part ++ 0 ∷ []) true) tail
-unfolding lettersFrom letterAt heardAfter joined
-zero-joins part tail are short = ap (λ (h : Heard). lettersFrom h tail) (heard-joined part 0 are (lit< tt) short)
+  -- the two zeros of a gap end the word that has passed, and its lowest fifteen bits are looked up
+  gap-ends :
+      (word tail : List ℕ) → 0 < length word →
+      bringsFrom p (heardOf word false) (0 ∷ 0 ∷ tail)
+      ≡ [] ∷ decodeOf (value (word ++ 0 ∷ []) % 65536 / 2) (min (length (word ++ 0 ∷ [])) 11 - 1) ∷ bringsFrom p nothingHeard tail
+  unfolding bringsFrom letterAt heardAfter
+  gap-ends word tail some = zero-joins word (0 ∷ tail) some ∙ rw (ends-after-zero p (heardOf (word ++ 0 ∷ []) true) refl)
 
--- the rest of a word joins what has passed
-rest-joins :
-    {z : Bool} {bs : List ℕ} → Rest z bs → (part tail : List ℕ) → Bits part → length part + length bs ≤ 10 →
-    lettersFrom (heardOf part z) (bs ++ tail) ≡ lettersFrom (heardOf (part ++ bs) false) tail
-rest-joins done part tail are short = rw (append-nil part)
-rest-joins (zero-bit {bs} r) part tail are short =
-    zero-joins part (bs ++ tail) are (omega arith)
-    ∙ rest-joins r (part ++ 0 ∷ []) tail (snoc-bits part 0 are (lit< tt)) (omega (arith, length-append part (0 ∷ [])))
-    ∙ ap (λ (l : List ℕ). lettersFrom (heardOf l false) tail) (append-assoc part (0 ∷ []) bs)
-rest-joins (one-bit {z} {bs} r) part tail are short =
-    one-joins part z (bs ++ tail) are (omega arith)
-    ∙ rest-joins r (part ++ 1 ∷ []) tail (snoc-bits part 1 are (lit< tt)) (omega (arith, length-append part (1 ∷ [])))
-    ∙ ap (λ (l : List ℕ). lettersFrom (heardOf l false) tail) (append-assoc part (1 ∷ []) bs)
+-- which comes to looking up the word itself: up to ten bits it stands in them whole, and over ten bits neither is a word
+looked-up :
+    {word : List ℕ} → Sound word →
+    decodeOf (value (word ++ 0 ∷ []) % 65536 / 2) (min (length (word ++ 0 ∷ [])) 11 - 1) ≡ decodeOf (value word) (length word)
+looked-up {word} s =
+    let low : value (word ++ 0 ∷ []) % 65536 / 2 ≡ value word % 32768 = rw (value-snoc word 0) (omega arith) in
+    let size = length-append word (0 ∷ []) in
+    ⊎-elim
+    (λ (short : length word - 10 ≡ 0).
+    let below : value word < 32768 = lt-of-lt-of-le (value-below (sound-bits s)) (pow-mono {j = 15} (omega arith)) in
+    let len : min (length (word ++ 0 ∷ [])) 11 - 1 ≡ length word = omega arith in
+    rw (low, mod-eq-of-lt below, len))
+    (λ (long : 0 < length word - 10).
+    rw low (long-low-no-word s (omega arith) _ ∙ sym (long-no-word s (omega arith) (length word))))
+    (eq-zero-or-pos (length word - 10))
 
--- the two zeros of a gap end the word that has passed, and it is looked up
-gap-ends :
-    (word tail : List ℕ) → Bits word → length word ≤ 10 →
-    lettersFrom (heardOf word false) (0 ∷ (0 ∷ tail)) ≡ decodeOf (value word) (length word) ++ lettersFrom nothingHeard tail
-unfolding lettersFrom letterAt heardAfter
-gap-ends word tail are short =
-    let half : value (word ++ 0 ∷ []) / 2 ≡ value word = omega (arith, value-snoc word 0) in
-    let less : length (word ++ 0 ∷ []) - 1 ≡ length word = omega (arith, length-append word (0 ∷ [])) in
-    zero-joins word (0 ∷ tail) are short ∙ rw (half, less)
+nothing-first : (n : ℕ) (ls : List (List ℕ)) → replicate n [] ++ ([] ∷ ls) ≡ [] ∷ (replicate n [] ++ ls)
+nothing-first zero ls = refl
+nothing-first (suc n) ls = ap nothing-then (nothing-first n ls)
+
+nothing-behind : (n : ℕ) (ls : List (List ℕ)) → replicate n [] ++ ([] ∷ ls) ≡ replicate (n + 1) [] ++ ls
+nothing-behind n ls = rw (add-one n) (nothing-first n ls)
+
+module _ (p : Bool) {word : List ℕ} (s : Sound word) (tail : List ℕ) where
+  -- one entry for each bit: nothing for the word's bits and the first zero, the letter for the second
+  pub word-brings :
+      bringsFrom p nothingHeard (word ++ (0 ∷ 0 ∷ tail))
+      ≡ replicate (length word + 1) [] ++ (decodeOf (value word) (length word) ∷ bringsFrom p nothingHeard tail)
+  unfolding value
+  word-brings =
+      let after = bringsFrom p nothingHeard tail in
+      word-joins p s [] false (0 ∷ 0 ∷ tail)
+      ∙ ap (λ (l : List (List ℕ)). replicate (length word) [] ++ l)
+      (gap-ends p word tail (sound-some s) ∙ ap (λ (l : List ℕ). [] ∷ l ∷ after) (looked-up s))
+      ∙ nothing-behind (length word) (decodeOf (value word) (length word) ∷ after)
+
+  -- a word of over ten bits brings nothing, whatever its last ten are
+  pub long-word-brings-nothing :
+      10 < length word →
+      bringsFrom p nothingHeard (word ++ (0 ∷ 0 ∷ tail)) ≡ replicate (length word + 2) [] ++ bringsFrom p nothingHeard tail
+  long-word-brings-nothing long =
+      let count : length word + 1 + 1 ≡ length word + 2 = omega arith in
+      word-brings
+      ∙ ap (λ (l : List ℕ). replicate (length word + 1) [] ++ (l ∷ bringsFrom p nothingHeard tail)) (long-no-word s long (length word))
+      ∙ nothing-behind (length word + 1) (bringsFrom p nothingHeard tail)
+      ∙ ap (λ (n : ℕ). replicate n [] ++ bringsFrom p nothingHeard tail) count
+
+-- ---- the characters alone
+
+concat-nothing : (n : ℕ) (ls : List (List ℕ)) → concat (replicate n [] ++ ls) ≡ concat ls
+concat-nothing zero ls = refl
+concat-nothing (suc n) ls = concat-nothing n ls
 
 pub word-read :
-    (word tail : List ℕ) → Rest false word → Bits word → length word ≤ 10 →
-    lettersFrom nothingHeard (word ++ (0 ∷ (0 ∷ tail))) ≡ decodeOf (value word) (length word) ++ lettersFrom nothingHeard tail
-unfolding value
-word-read word tail r are short = rest-joins r [] (0 ∷ (0 ∷ tail)) none (omega arith) ∙ gap-ends word tail are short
+    (p : Bool) {word : List ℕ} → Sound word → (tail : List ℕ) →
+    lettersFrom p nothingHeard (word ++ (0 ∷ 0 ∷ tail)) ≡ decodeOf (value word) (length word) ++ lettersFrom p nothingHeard tail
+unfolding lettersFrom
+word-read p {word} s tail = ap concat (word-brings p s tail) ∙ concat-nothing (length word + 1) _
 
 -- two zeros with nothing before them bring nothing
-pub zeros-read : (tail : List ℕ) → lettersFrom nothingHeard (0 ∷ (0 ∷ tail)) ≡ lettersFrom nothingHeard tail
-unfolding value decodeOf lengthOf
-zeros-read tail = gap-ends [] tail none (omega arith)
+pub zeros-read : (tail : List ℕ) → lettersFrom false nothingHeard (0 ∷ 0 ∷ tail) ≡ lettersFrom false nothingHeard tail
+unfolding lettersFrom bringsFrom letterAt heardAfter zeroEnds
+zeros-read tail = ap (λ (l : List ℕ). l ++ lettersFrom false nothingHeard tail) (decode-no-bits 0)
+
+-- the reader for pauses skips each
+pub zero-skipped : (tail : List ℕ) → bringsFrom true nothingHeard (0 ∷ tail) ≡ [] ∷ bringsFrom true nothingHeard tail
+unfolding bringsFrom letterAt heardAfter zeroEnds
+zero-skipped tail = ap (λ (l : List ℕ). l ∷ bringsFrom true nothingHeard tail) (decode-no-bits 0)
+
+pub zeros-skipped :
+    (k : ℕ) (tail : List ℕ) → lettersFrom true nothingHeard (replicate k 0 ++ tail) ≡ lettersFrom true nothingHeard tail
+unfolding lettersFrom
+zeros-skipped zero tail = refl
+zeros-skipped (suc k) tail = ap concat (zero-skipped (replicate k 0 ++ tail)) ∙ zeros-skipped k tail
 
 -- ones bring nothing
-pub ones-read : (n : ℕ) (h : Heard) → lettersFrom h (replicate n 1) ≡ []
-unfolding lettersFrom letterAt heardAfter
-ones-read zero h = refl
-ones-read (suc n) h = ones-read n _
+pub ones-read : (p : Bool) (n : ℕ) (h : Heard) → lettersFrom p h (replicate n 1) ≡ []
+unfolding lettersFrom bringsFrom letterAt heardAfter
+ones-read p zero h = refl
+ones-read p (suc n) h = ones-read p n _

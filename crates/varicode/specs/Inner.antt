@@ -24,9 +24,11 @@ pub record Refuses (e : VaricodeEncoder) (r : Wrote) : Type 0 where
 
 -- a bit that joins the word, and the word forgotten: what `push_bit` is made of
 pub record Joins (d : VaricodeDecoder) (b : ℕ) (r : VaricodeDecoder) : Type 0 where
+  pub pauses : r .pauses ≡ d .pauses
   pub heard : reader r .heard ≡ joinedTo (readHeard (reader d .heard)) b
   pub chars : r .chars ≡ d .chars
 
-pub record Forgets (q : CharQueue) (r : VaricodeDecoder) : Type 0 where
+pub record Forgets (d : VaricodeDecoder) (q : CharQueue) (r : VaricodeDecoder) : Type 0 where
+  pub pauses : r .pauses ≡ d .pauses
   pub heard : reader r .heard ≡ nothingHeard
   pub chars : r .chars ≡ q

@@ -1,5 +1,6 @@
--- The Varicode reader: what each bit brings, and the queue of 64 characters that they go through. Definitions only.
-use mathlib.Core.Bool.{Bool, false, cond}
+-- The two Varicode readers: what each bit brings, and the queue of 64 characters that they go through. They differ in
+-- one definition, when a zero ends a word. Definitions only.
+use mathlib.Core.Bool.{Bool, false, cond, _&&_, _||_}
 use mathlib.Core.List.{List, [], _∷_, _++_}
 use Prim.Native.Nat.{ℕ, _+_, _-_, _*_, _/_, _%_, min}
 use lib.Dec.{ltb, eqb}
@@ -10,7 +11,7 @@ use Rattle.queue.specs.Ring.{Ring, empty, readAs, putAll, charRoom}
 use Rattle.varicode_words.specs.Word.{decodeOf}
 use Rattle.varicode.specs.Take.{left}
 
--- what the reader remembers of the word that it is in: its bits, how many, and whether the last was a zero
+-- what a reader remembers of the word that it is in: its bits, how many, and whether the last was a zero
 pub record Heard : Type 0 where
   pub shift : ℕ
   pub len : ℕ
@@ -19,36 +20,51 @@ pub record Heard : Type 0 where
 abbrev pub nothingHeard : Heard
 nothingHeard = record { shift = 0; len = 0; prevZero = false }
 
--- A zero after a remembered zero ends the word.
-abbrev pub ends : Heard → ℕ → Bool
-ends h b = cond (eqb b 0) (h .prevZero) false
+-- A zero ends the word after a remembered zero; in the reader for pauses also while nothing is heard. The empty word is
+-- no letter's, so that zero brings nothing, and nothing is heard after it: it is skipped.
+unfoldable pub zeroEnds : (pauses : Bool) → Heard → Bool
+zeroEnds pauses h = h .prevZero || (pauses && eqb (h .len) 0)
+
+abbrev pub ends : (pauses : Bool) → Heard → ℕ → Bool
+ends pauses h b = eqb b 0 && zeroEnds pauses h
 
 -- The word's trailing zero is dropped, and it is looked up by bits and length.
-unfoldable pub letterAt : Heard → ℕ → List ℕ
-letterAt h b = cond (ends h b) (decodeOf (h .shift / 2) (h .len - 1)) []
+unfoldable pub letterAt : (pauses : Bool) → Heard → ℕ → List ℕ
+letterAt pauses h b = cond (ends pauses h b) (decodeOf (h .shift / 2) (h .len - 1)) []
 
 -- Otherwise the bit joins a 16-bit shift and the length counts up to 11.
 abbrev pub joinedTo : Heard → ℕ → Heard
 joinedTo h b = record { shift = (2 * h .shift + b) % 65536; len = min (h .len + 1) 11; prevZero = eqb b 0 }
 
 -- At a word's end everything is forgotten, the zeros included.
-unfoldable pub heardAfter : Heard → ℕ → Heard
-heardAfter h b = cond (ends h b) nothingHeard (joinedTo h b)
+unfoldable pub heardAfter : (pauses : Bool) → Heard → ℕ → Heard
+heardAfter pauses h b = cond (ends pauses h b) nothingHeard (joinedTo h b)
+
+-- what several bits bring, one entry for each bit
+unfoldable pub bringsFrom : (pauses : Bool) → Heard → List ℕ → List (List ℕ)
+unfolding letterAt heardAfter
+bringsFrom pauses h [] = []
+bringsFrom pauses h (b ∷ bs) = letterAt pauses h b ∷ bringsFrom pauses (heardAfter pauses h b) bs
 
 -- the characters of several bits, one after the other
-unfoldable pub lettersFrom : Heard → List ℕ → List ℕ
-unfolding letterAt heardAfter
-lettersFrom h [] = []
-lettersFrom h (b ∷ bs) = letterAt h b ++ lettersFrom (heardAfter h b) bs
+abbrev pub concat : List (List ℕ) → List ℕ
+concat [] = []
+concat (l ∷ ls) = l ++ concat ls
+
+unfoldable pub lettersFrom : (pauses : Bool) → Heard → List ℕ → List ℕ
+unfolding bringsFrom
+lettersFrom pauses h bits = concat (bringsFrom pauses h bits)
 
 -- ---- the queue
 
+-- a reader is for pauses or not, from when it is made
 pub record Reader : Type 0 where
+  pub pauses : Bool
   pub heard : Heard
   pub chars : Ring
 
-unfoldable pub freshReader : Reader
-freshReader = record { heard = nothingHeard; chars = empty charRoom }
+unfoldable pub freshReader : (pauses : Bool) → Reader
+freshReader pauses = record { pauses = pauses; heard = nothingHeard; chars = empty charRoom }
 
 -- a record may be forged: its length is read modulo one more than its largest value
 abbrev pub readHeard : Heard → Heard
@@ -57,7 +73,7 @@ readHeard h = record { shift = h .shift; len = h .len % 12; prevZero = h .prevZe
 -- the character that a bit brings, if it brings one
 unfoldable pub brought : Reader → ℕ → List ℕ
 unfolding letterAt
-brought r b = letterAt (readHeard (r .heard)) b
+brought r b = letterAt (r .pauses) (readHeard (r .heard)) b
 
 -- the character doesn't fit
 unfoldable pub noRoom : List ℕ → Ring → Bool
@@ -78,8 +94,12 @@ unfoldable pub bitLeaves : Reader → ℕ → Reader
 unfolding brought noRoom heardAfter
 bitLeaves r b =
     cond (ltb 1 b) r (cond (noRoom (brought r b) (r .chars)) r
-    (record { heard = heardAfter (readHeard (r .heard)) b; chars = withLetter (brought r b) (r .chars) }))
+    (record {
+      pauses = r .pauses;
+      heard = heardAfter (r .pauses) (readHeard (r .heard)) b;
+      chars = withLetter (brought r b) (r .chars);
+    }))
 
 -- the reader after its next character is taken out
 abbrev pub charLeaves : Reader → Reader
-charLeaves r = record { heard = r .heard; chars = left charRoom (r .chars) }
+charLeaves r = record { pauses = r .pauses; heard = r .heard; chars = left charRoom (r .chars) }

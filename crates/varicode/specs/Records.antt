@@ -15,7 +15,11 @@ writer e = record { pending = bits (e .pending); first = e .first }
 
 abbrev pub reader : VaricodeDecoder → Reader
 reader d =
-    record { heard = record { shift = d .shift; len = d .len; prevZero = d .«prev_zero» }; chars = chars (d .chars) }
+    record {
+      pauses = d .pauses;
+      heard = record { shift = d .shift; len = d .len; prevZero = d .«prev_zero» };
+      chars = chars (d .chars);
+    }
 
 -- the bit or the character that was taken out, if there was one
 abbrev pub takenSaid : Taken → List ℕ

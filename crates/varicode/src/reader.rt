@@ -1,8 +1,9 @@
-// The Varicode reader: bits to characters.
-ghost use mathlib.Core.Bool.{true};
+// The Varicode reader: bits to characters. There are two, chosen when one is made, and they differ in which zeros end
+// a word.
+ghost use mathlib.Core.Bool.{true, false};
 ghost use mathlib.Core.Path.{_≡_};
 ghost use Prim.Native.Nat.{_+_, _-_, min, _≤_};
-ghost use Rattle.varicode.specs.Reader.{freshReader};
+ghost use Rattle.varicode.specs.Reader.{freshReader, zeroEnds, readHeard};
 ghost use Rattle.varicode.specs.Records.{reader};
 ghost use Rattle.varicode.specs.Promise.{Pushes, GivesChar};
 ghost use Rattle.varicode.specs.Inner.{Joins, Forgets};
@@ -11,9 +12,10 @@ use queue::CharQueue;
 use refusal::Put;
 use varicode_words::Letter;
 
-// The reader: the bits of the word that it is in, how many, whether the last was a zero, and the characters
-// that are not taken out yet.
+// The reader: whether it is for pauses, the bits of the word that it is in, how many, whether the last was a zero,
+// and the characters that are not taken out yet.
 pub struct VaricodeDecoder {
+    pub pauses: bool,
     pub shift: u16,
     pub len: u8,
     pub prev_zero: bool,
@@ -45,28 +47,32 @@ fn count_up(len: u8) -> u8
     if len < 11 { len + 1 } else { 11 }
 }
 
-// A reader that has heard nothing, with these characters.
-fn forgotten(chars: CharQueue) -> VaricodeDecoder
-    ensures { λ r. ⌜ Forgets chars r ⌝ }
+// A reader that has heard nothing, with no characters.
+fn fresh(pauses: bool) -> VaricodeDecoder
+    ensures { λ r. ⌜ reader r ≡ freshReader pauses ⌝ }
 {
     VaricodeDecoder {
+        pauses,
         shift: 0,
         len: 0,
         prev_zero: false,
-        chars,
+        chars: CharQueue::new(),
     }
 }
 
 impl VaricodeDecoder {
+    // The reader of document 01, as in the Rust: just two zeros are a gap.
     pub fn new() -> VaricodeDecoder
-        ensures { λ r. ⌜ reader r ≡ freshReader ⌝ }
+        ensures { λ r. ⌜ reader r ≡ freshReader false ⌝ }
     {
-        VaricodeDecoder {
-            shift: 0,
-            len: 0,
-            prev_zero: false,
-            chars: CharQueue::new(),
-        }
+        fresh(false)
+    }
+
+    // The reader for pauses: two zeros or more are a gap, and zeros before a word are skipped.
+    pub fn for_pauses() -> VaricodeDecoder
+        ensures { λ r. ⌜ reader r ≡ freshReader true ⌝ }
+    {
+        fresh(true)
     }
 
     // A received bit.
@@ -80,7 +86,7 @@ impl VaricodeDecoder {
             };
         }
         if bit == 0 {
-            if self.prev_zero {
+            if self.zero_ends() {
                 return self.end_word();
             }
         }
@@ -90,9 +96,22 @@ impl VaricodeDecoder {
         }
     }
 
-    // The second zero of a gap: the word is looked up without its trailing zero, and everything forgotten.
+    // Whether a zero ends the word: the second zero of a gap, or, for pauses, one while nothing is heard.
+    fn zero_ends(self) -> bool
+        ensures { λ r. ⌜ r ≡ zeroEnds (self .pauses) (readHeard (reader self .heard)) ⌝ }
+    {
+        if self.prev_zero {
+            return true;
+        }
+        if self.pauses {
+            return self.len % 12 == 0;
+        }
+        false
+    }
+
+    // A zero that ends the word: that is looked up without its trailing zero, and everything forgotten.
     fn end_word(self) -> Pushed
-        requires { ⌜ self .«prev_zero» ≡ true ⌝ }
+        requires { ⌜ zeroEnds (self .pauses) (readHeard (reader self .heard)) ≡ true ⌝ }
         ensures { λ r. ⌜ Pushes self 0 r ⌝ }
     {
         let chars = self.chars;
@@ -108,13 +127,26 @@ impl VaricodeDecoder {
                 let more = q.put(c);
                 Pushed {
                     answer: Put::Done,
-                    decoder: forgotten(more),
+                    decoder: self.forgotten(more),
                 }
             }
             Letter::Nothing => Pushed {
                 answer: Put::Done,
-                decoder: forgotten(chars),
+                decoder: self.forgotten(chars),
             },
+        }
+    }
+
+    // Everything heard is forgotten, and these are the characters.
+    fn forgotten(self, chars: CharQueue) -> VaricodeDecoder
+        ensures { λ r. ⌜ Forgets self chars r ⌝ }
+    {
+        VaricodeDecoder {
+            pauses: self.pauses,
+            shift: 0,
+            len: 0,
+            prev_zero: false,
+            chars,
         }
     }
 
@@ -126,6 +158,7 @@ impl VaricodeDecoder {
         let chars = self.chars;
         let wide = 2 * (self.shift as u32) + (bit as u32);
         VaricodeDecoder {
+            pauses: self.pauses,
             shift: (wide % 65536) as u16,
             len: count_up(self.len % 12),
             prev_zero: bit == 0,
@@ -149,6 +182,7 @@ impl VaricodeDecoder {
         NextChar {
             answer: Taken::One(q.front()),
             decoder: VaricodeDecoder {
+                pauses: self.pauses,
                 shift: self.shift,
                 len: self.len,
                 prev_zero: self.prev_zero,

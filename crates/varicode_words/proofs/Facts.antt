@@ -85,6 +85,9 @@ module _ (b : ℕ) (low : b < 128) where
       (i : ℕ) → suc i < lengthOf (wordOf b) → getD (bitsOf (wordOf b)) i 0 ≡ 0 → getD (bitsOf (wordOf b)) (suc i) 0 ≡ 0 → ⊥
   word-no-gap i h = sound-no-gap word-rule i (rw (length-bits (wordOf b)) h)
 
+pub any-word-rule : (b : ℕ) → Sound (bitsOf (wordOf b))
+any-word-rule b = any-word (λ (w : ℕ). Sound (bitsOf w)) word-rule b
+
 odd : ℕ → ℕ → Bool
 odd b w = eqb (w % 2) 1
 

@@ -34,6 +34,7 @@ fn lines(random: &mut Random) -> Vec<Line> {
         varicode::fresh_line(),
         WriterLine::new().text(*b"hi").open(300).take(12).line(),
         ReaderLine::new().bits("11 00").put(2).take(2).line(),
+        ReaderLine::for_pauses().bits("0 11 000").put(2).take(2).line(),
         soft_line(&[0.5; 9], 5, survivors(4) + 1),
         hard_line(&[1; 8], 4, survivors(4)),
         block_line(0, 0, 1, &[0, 0, 0x80, 0xBF], 2, 81),

@@ -25,7 +25,7 @@ const SEED: u64 = 0x4879_6F6C_6D75_7265;
 /// What compares an area: it reports its groups, with random inputs of its own.
 type Area = fn(&mut Groups, &mut Random);
 
-const AREAS: [Area; 10] = [
+const AREAS: [Area; 12] = [
     encoder::run,
     decoder::run,
     varicode::run_words,
@@ -36,9 +36,11 @@ const AREAS: [Area; 10] = [
     no_calls::run,
     damaged::run,
     program::run,
+    varicode::pauses::run,
+    varicode::pauses::run_texts,
 ];
 
-/// The areas run side by side, and are reported in order.
+/// The areas run side by side, and are reported in order. A new one comes last: the others keep their random inputs so.
 fn main() -> ExitCode {
     println!("compare: random inputs from seed {SEED:#x}");
     let mut groups = Groups::default();

@@ -15,7 +15,7 @@ const LONG: usize = 266_240;
 
 /// A letter that names nothing, fields that are missing, odd, too many, empty, in digits that are none or upper case, or
 /// of more bytes than there is room for; pieces that are not closed or closed twice.
-const LINES: [&str; 46] = [
+const LINES: [&str; 51] = [
     "x 00",
     "vv 65",
     "V 65",
@@ -60,8 +60,13 @@ const LINES: [&str; 46] = [
     "w (00*ff) 0 0 1 t1",
     "w (00*100) 0 0 2 t1",
     "w (00*100) 0 0 1 z1",
-    "r 0000 00 0 (00*40) 0 0 i",
-    "r 0000 00 0 (00*40) 0 0 p1 ",
+    "r 0 0000 00 0 (00*40) 0 0 i",
+    "r 0 0000 00 0 (00*40) 0 0 p1 ",
+    "r 0000 00 0 (00*40) 0 0 p1",
+    "r 2 0000 00 0 (00*40) 0 0 p1",
+    "r 01 0000 00 0 (00*40) 0 0 p1",
+    "r - 0000 00 0 (00*40) 0 0 p1",
+    "r  0000 00 0 (00*40) 0 0 p1",
 ];
 
 pub fn run(groups: &mut Groups, _: &mut Random) {

@@ -1,5 +1,6 @@
 //! What each door must answer and leave in its buffers. An accepted input's output is the oracle's; whether an
-//! input is accepted is decided here, from 01's table of refusal numbers, and from nothing of the proved code.
+//! input is accepted is decided here, from 01's table of refusal numbers, and from nothing of the proved code. The
+//! reader for pauses, which the oracle does not have, is by the words of request 2026-01.
 
 pub mod decoder;
 pub mod encoder;

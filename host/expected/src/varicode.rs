@@ -1,17 +1,18 @@
-//! Varicode: the words, the writer and the reader. The oracle's queues grow without end; that a call's bits or
-//! character fit in the port's, and what is left of a record, is decided here, by 01's words.
+//! Varicode: the words, the writer and the two readers. The oracle's queues grow without end; that a call's bits or
+//! character fit in the port's, and what is left of a record, is decided here, by 01's words. The reader for pauses,
+//! which the oracle does not have, is by request 2026-01.
 
+mod pauses;
+mod reader;
 mod ring;
 
-use oracle::codec::varicode::{VaricodeDecoder, VaricodeEncoder, varicode_decode, varicode_encode};
+use oracle::codec::varicode::{VaricodeEncoder, varicode_decode, varicode_encode};
+pub use reader::{Reader, ReaderRecord};
 pub use ring::Ring;
 
-/// How many bits the writer's queue holds, and how many characters the reader's.
+/// How many bits the writer's queue holds, and how many characters a reader's.
 pub const BITS: usize = 256;
 pub const CHARS: usize = 64;
-
-/// The reader's length counts up to this.
-const LONGEST: u8 = 11;
 
 /// What a call that puts something answers where it is accepted; else it answers the refusal's number.
 pub const DONE: u8 = 0;
@@ -19,6 +20,12 @@ pub const DONE: u8 = 0;
 /// A byte's word and its length.
 pub fn word(byte: u8) -> (u16, u8) {
     varicode_encode(byte)
+}
+
+/// The bits of a byte's word, the first one first.
+pub fn spelled(byte: u8) -> Vec<u8> {
+    let (bits, len) = word(byte);
+    (0..len).rev().map(|at| (bits >> at & 1) as u8).collect()
 }
 
 /// Every value that is a word of this length, with its byte, in rising order.
@@ -86,16 +93,15 @@ impl Writer {
     }
 
     pub fn byte(&mut self, byte: u8) -> u8 {
-        let (bits, len) = word(byte);
+        let word = spelled(byte);
         let gap = self.gap();
-        if !self.fits(gap, u64::from(len)) {
+        if !self.fits(gap, word.len() as u64) {
             return 9;
         }
         if let Some(oracle) = &mut self.oracle {
             oracle.push_byte(byte);
         }
         self.record.first = false;
-        let word: Vec<u8> = (0..len).rev().map(|at| (bits >> at & 1) as u8).collect();
         self.puts(gap, &word)
     }
 
@@ -136,106 +142,6 @@ impl Writer {
     }
 }
 
-/// A reader's record, any of them.
-#[derive(Debug, Clone, PartialEq, Eq)]
-pub struct ReaderRecord {
-    /// The bits of the word that it is in, how many up to [`LONGEST`], and whether the last was a zero.
-    pub shift: u16,
-    pub len: u8,
-    pub zero: bool,
-    pub chars: Ring<CHARS>,
-}
-
-/// A reader with room for [`CHARS`]. The oracle is beside it as beside a writer; its own queue is emptied at each bit.
-pub struct Reader {
-    record: ReaderRecord,
-    oracle: Option<VaricodeDecoder>,
-}
-
-impl Default for Reader {
-    fn default() -> Reader {
-        Reader::new()
-    }
-}
-
-impl Reader {
-    pub fn new() -> Reader {
-        Reader {
-            record: ReaderRecord {
-                shift: 0,
-                len: 0,
-                zero: false,
-                chars: Ring::empty(),
-            },
-            oracle: Some(VaricodeDecoder::new()),
-        }
-    }
-
-    pub fn forged(record: ReaderRecord) -> Reader {
-        Reader { record, oracle: None }
-    }
-
-    pub fn record(&self) -> &ReaderRecord {
-        &self.record
-    }
-
-    /// How many characters are not taken out yet.
-    pub fn held(&self) -> usize {
-        self.record.chars.held()
-    }
-
-    /// A received bit.
-    pub fn put(&mut self, bit: u8) -> u8 {
-        if bit > 1 {
-            return 8;
-        }
-        let brought = self.brought(bit);
-        if brought.is_some() && self.held() == CHARS {
-            return 9;
-        }
-        if let Some(oracle) = &mut self.oracle {
-            oracle.push_bit(bit);
-            assert_eq!(oracle.pop_char(), brought, "the oracle's character");
-        }
-        self.hear(bit);
-        if let Some(char) = brought {
-            self.record.chars.put(&[char]);
-        }
-        DONE
-    }
-
-    /// The next character, taken out.
-    pub fn take(&mut self) -> Option<u8> {
-        self.record.chars.take()
-    }
-
-    /// A zero after a remembered zero ends the word.
-    fn ends(&self, bit: u8) -> bool {
-        bit == 0 && self.record.zero
-    }
-
-    /// A length out of range is read modulo one more than its largest value.
-    fn len(&self) -> u8 {
-        self.record.len % (LONGEST + 1)
-    }
-
-    /// The character of the word that a bit ends, without the word's trailing zero.
-    fn brought(&self, bit: u8) -> Option<u8> {
-        let looked_up = || varicode_decode(self.record.shift >> 1, self.len().saturating_sub(1));
-        self.ends(bit).then(looked_up).flatten()
-    }
-
-    fn hear(&mut self, bit: u8) {
-        if self.ends(bit) {
-            (self.record.shift, self.record.len, self.record.zero) = (0, 0, false);
-        } else {
-            self.record.shift = self.record.shift << 1 | u16::from(bit);
-            self.record.len = (self.len() + 1).min(LONGEST);
-            self.record.zero = bit == 0;
-        }
-    }
-}
-
 #[cfg(test)]
 mod tests {
     use super::*;
@@ -246,27 +152,11 @@ mod tests {
             .collect()
     }
 
-    fn read(bits: &str) -> Vec<u8> {
-        let mut reader = Reader::new();
-        for bit in bits.bytes().filter(|bit| *bit != b' ') {
-            assert_eq!(reader.put(bit - b'0'), DONE);
-        }
-        std::iter::from_fn(|| reader.take()).collect()
-    }
-
     #[test]
     fn hi_is_as_the_bench_sheet_says() {
         let mut writer = Writer::new();
         assert_eq!((writer.byte(b'h'), writer.byte(b'i')), (DONE, DONE));
         assert_eq!(taken(&mut writer), "101011001101");
-    }
-
-    #[test]
-    fn the_reader_is_as_the_bench_sheet_says() {
-        assert_eq!(read("11 00"), b"e");
-        assert_eq!(read("0 11 00"), b"");
-        assert_eq!(read("00 11 00"), b"e");
-        assert_eq!(read("0 1010101011 00"), b"\0");
     }
 
     #[test]
@@ -277,16 +167,6 @@ mod tests {
         assert_eq!((writer.open(0), writer.close(0), writer.held()), (DONE, DONE, 256));
         assert_eq!((writer.take(), writer.byte(b' '), writer.close(0)), (Some(0), DONE, 9));
         assert_eq!(taken(&mut writer), format!("{}1", "0".repeat(255)));
-    }
-
-    #[test]
-    fn a_full_queue_of_characters_refuses_the_bit_that_ends_a_word_alone() {
-        let mut reader = Reader::new();
-        for _ in 0..CHARS {
-            assert_eq!([1, 0, 0].map(|bit| reader.put(bit)), [DONE; 3]);
-        }
-        assert_eq!([1, 0, 0, 0, 2].map(|bit| reader.put(bit)), [DONE, DONE, 9, 9, 8]);
-        assert_eq!((reader.take(), reader.put(0), reader.held()), (Some(b' '), DONE, 64));
     }
 
     #[test]
@@ -314,25 +194,5 @@ mod tests {
         assert_eq!((writer.take(), writer.open(257), writer.close(u64::MAX)), (None, 9, 9));
         assert_eq!(*writer.record(), before);
         assert_eq!((writer.close(0), writer.record().bits.head), (DONE, 255));
-    }
-
-    #[test]
-    fn a_forged_readers_length_is_read_modulo() {
-        let chars = Ring {
-            slots: [9; CHARS],
-            head: 64,
-            count: 65 + 64,
-        };
-        let record = ReaderRecord {
-            shift: 0b110,
-            len: 12 + 3,
-            zero: true,
-            chars,
-        };
-        let mut reader = Reader::forged(record.clone());
-        assert_eq!((reader.put(2), reader.put(0)), (8, 9));
-        assert_eq!(*reader.record(), record);
-        assert_eq!((reader.take(), reader.record().len, reader.put(0)), (Some(9), 15, DONE));
-        assert_eq!((reader.record().chars.slots[0], reader.record().len), (b'e', 0));
     }
 }

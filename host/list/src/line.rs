@@ -23,14 +23,17 @@ pub fn bytes(bytes: &[u8]) -> String {
     if bytes.is_empty() {
         return "-".to_string();
     }
-    bytes.chunk_by(|a, b| a == b).map(run).collect()
+    let runs = bytes.chunk_by(|a, b| a == b);
+    runs.map(|equal| run(equal[0], equal.len())).collect()
 }
 
-fn run(equal: &[u8]) -> String {
-    if equal.len() < RUN {
-        return format!("{:02x}", equal[0]).repeat(equal.len());
+/// One byte so many times.
+pub fn run(byte: u8, times: usize) -> String {
+    match times {
+        1 => format!("{byte:02x}"),
+        RUN.. => format!("({byte:02x}*{times:x})"),
+        _ => format!("{byte:02x}").repeat(times),
     }
-    format!("({:02x}*{:x})", equal[0], equal.len())
 }
 
 /// A piece again and again, to so many bytes: `(PIECE*COUNT)`.

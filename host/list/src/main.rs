@@ -1,5 +1,6 @@
 //! Writes the stored lists into a folder: the calls to its file `stdin`, and to `stdout` what is expected of each, line by
-//! line. Accepted answers are the oracle's; refusals, and what comes of forged records, are by document 01.
+//! line. Accepted answers are the oracle's; refusals, and what comes of forged records, are by document 01. What the
+//! reader for pauses answers is by request 2026-01.
 
 mod stored;
 
@@ -43,5 +44,6 @@ fn stored() -> Stored {
     stored::decoder::add(&mut list, random);
     stored::symbols::add(&mut list, random);
     stored::streaming::add(&mut list, random);
+    stored::varicode::add_for_pauses(&mut list, random);
     list
 }

@@ -1,8 +1,9 @@
 //! The lines of Varicode. A writer's or a reader's line grows step by step: each step is run on what is expected, and its
 //! answers are written.
 
-use crate::line::{Line, bytes};
-use expected::varicode::{Reader, ReaderRecord, Ring, Writer, WriterRecord, hits, word};
+use crate::line::{Line, bytes, run};
+use expected::varicode::{Reader, ReaderRecord, Ring, Writer, WriterRecord, hits, spelled, word};
+use std::fmt::Write;
 
 /// What a queue that is empty answers: no byte.
 const NOTHING: u64 = 0x100;
@@ -26,12 +27,13 @@ pub fn lookup_line(len: u8) -> Line {
     }
 }
 
-/// `m`: a fresh writer's record, and a fresh reader's.
+/// `m`: a fresh writer's record, a fresh reader's, and that of a fresh reader for pauses.
 pub fn fresh_line() -> Line {
-    let (writer, reader) = (written(Writer::new().record()), read(Reader::new().record()));
+    let writer = written(Writer::new().record());
+    let [reader, for_pauses] = [Reader::new(), Reader::for_pauses()].map(|reader| read(reader.record()));
     Line {
         call: "m".to_string(),
-        answer: format!("m {writer} {reader}"),
+        answer: format!("m {writer} {reader} {for_pauses}"),
     }
 }
 
@@ -40,10 +42,12 @@ fn written(record: &WriterRecord) -> String {
     format!("{} {}", ring(&record.bits), u8::from(record.first))
 }
 
-/// A reader's record: the word's bits, its length, whether the last was a zero, the slots, the head, the count.
+/// A reader's record: whether it is for pauses, the word's bits, its length, whether the last was a zero, the slots,
+/// the head, the count.
 fn read(record: &ReaderRecord) -> String {
-    let (shift, len, zero) = (record.shift, record.len, u8::from(record.zero));
-    format!("{shift:04x} {len:02x} {zero} {}", ring(&record.chars))
+    let (pauses, zero) = (u8::from(record.pauses), u8::from(record.zero));
+    let (shift, len) = (record.shift, record.len);
+    format!("{pauses} {shift:04x} {len:02x} {zero} {}", ring(&record.chars))
 }
 
 fn ring<const N: usize>(ring: &Ring<N>) -> String {
@@ -82,16 +86,17 @@ impl Steps {
         }
     }
 
-    fn byte(&mut self, letter: char, byte: u8) {
+    /// A byte so many times.
+    fn byte(&mut self, letter: char, byte: u8, times: usize) {
         if self.on != Some(letter) {
             self.calls += &format!(" {letter}");
             self.on = Some(letter);
         }
-        self.calls += &format!("{byte:02x}");
+        self.calls += &run(byte, times);
     }
 
     fn answer(&mut self, answer: u64) {
-        self.answers += &format!(" {answer:x}");
+        write!(self.answers, " {answer:x}").expect("a string takes all");
     }
 
     /// The record before, the steps; the answers, the record after.
@@ -145,7 +150,7 @@ impl WriterLine {
     }
 
     pub fn byte(mut self, byte: u8) -> WriterLine {
-        self.steps.byte('b', byte);
+        self.steps.byte('b', byte, 1);
         self.steps.answer(put(self.writer.byte(byte)));
         self
     }
@@ -195,6 +200,10 @@ impl ReaderLine {
         ReaderLine::of(Reader::new())
     }
 
+    pub fn for_pauses() -> ReaderLine {
+        ReaderLine::of(Reader::for_pauses())
+    }
+
     pub fn forged(record: ReaderRecord) -> ReaderLine {
         ReaderLine::of(Reader::forged(record))
     }
@@ -212,10 +221,20 @@ impl ReaderLine {
         self.reader.held()
     }
 
-    pub fn put(mut self, bit: u8) -> ReaderLine {
-        self.steps.byte('i', bit);
-        self.steps.answer(put(self.reader.put(bit)));
+    pub fn put(self, bit: u8) -> ReaderLine {
+        self.put_times(bit, 1)
+    }
+
+    /// The same bit once or more, written as a run where it is often.
+    pub fn put_times(mut self, bit: u8, times: usize) -> ReaderLine {
+        self.steps.byte('i', bit, times);
+        (0..times).for_each(|_| self.steps.answer(put(self.reader.put(bit))));
         self
+    }
+
+    /// A byte's word, without a gap.
+    pub fn word(self, byte: u8) -> ReaderLine {
+        spelled(byte).into_iter().fold(self, ReaderLine::put)
     }
 
     /// Digits 0 and 1; spaces are left out.
@@ -277,8 +296,27 @@ mod tests {
         assert_eq!(
             pair(ReaderLine::new().bits("11 00").put(2).take_all().line()),
             strings(
-                "r 0000 00 0 (00*40) 0 0 i0101000002 p2",
-                "r 0 0 0 0 800000000 65 100 0000 00 0 65(00*3f) 1 0"
+                "r 0 0000 00 0 (00*40) 0 0 i0101000002 p2",
+                "r 0 0 0 0 800000000 65 100 0 0000 00 0 65(00*3f) 1 0"
+            )
+        );
+    }
+
+    #[test]
+    fn a_reader_for_pauses() {
+        assert_eq!(
+            pair(
+                ReaderLine::for_pauses()
+                    .bits("0 11 0")
+                    .put(0)
+                    .put_times(0, 9)
+                    .word(b't')
+                    .take_all()
+                    .line()
+            ),
+            strings(
+                "r 1 0000 00 0 (00*40) 0 0 i0001010000(00*9)010001 p2",
+                "r 0 0 0 0 0 0 0 0 0 0 0 0 0 0 0 0 0 65 100 1 0005 03 0 65(00*3f) 1 0"
             )
         );
     }

@@ -1,7 +1,7 @@
 //! Lines of forged writers and readers, which the oracle cannot have: what is expected of them is by 01's rules alone.
 
 use expected::Random;
-use expected::varicode::{BITS, CHARS};
+use expected::varicode::{BITS, CHARS, ReaderRecord};
 use list::line::Line;
 use list::varicode::{ReaderLine, WriterLine, inputs};
 
@@ -42,11 +42,11 @@ fn amount(random: &mut Random) -> u64 {
     }
 }
 
-/// The same: zeros, which end words, ones, and bits above 1.
-pub fn readers(random: &mut Random) -> Vec<Line> {
+/// The same of a reader's records: zeros, which end words, ones, and bits above 1.
+pub fn readers(forged: fn(&mut Random) -> ReaderRecord, random: &mut Random) -> Vec<Line> {
     let mut lines = Vec::new();
     for at in 0..RECORDS {
-        let record = inputs::reader(random);
+        let record = forged(random);
         lines.push(step(ReaderLine::forged(record.clone()), at % 4, random).line());
         let steps = 1 + random.below(STEPS);
         let line = (0..steps).fold(ReaderLine::forged(record), |line, _| {
@@ -80,7 +80,11 @@ mod tests {
     #[test]
     fn what_is_refused_leaves_the_record_and_other_calls_are_accepted() {
         let random = &mut Random::new(1);
-        for (lines, record) in [(writers(random), 4), (readers(random), 6)] {
+        for (lines, record) in [
+            (writers(random), 4),
+            (readers(inputs::reader, random), 7),
+            (readers(inputs::reader_for_pauses, random), 7),
+        ] {
             let single = lines
                 .iter()
                 .step_by(2)

@@ -2,7 +2,7 @@
 
 use super::Stored;
 use expected::Random;
-use expected::varicode::{BITS, CHARS};
+use expected::varicode::{BITS, CHARS, ReaderRecord};
 use list::varicode::{ReaderLine, WriterLine, fresh_line, inputs, lookup_line, word_line};
 
 /// The lengths at which every value is looked up: those that words have and their neighbours, that of the shift, and
@@ -22,7 +22,9 @@ pub fn add(list: &mut Stored, random: &mut Random) {
         "d: the bytes of all 65536 values at a length. Length; the values that are words, each with its byte.",
     );
     LENGTHS.into_iter().for_each(|len| list.add(lookup_line(len)));
-    list.comment("m: a fresh writer and a fresh reader. Their records, as the lines w and r have them.");
+    list.comment(
+        "m: a fresh writer, a fresh reader and one for pauses. Their records, as the lines w and r have them.",
+    );
     list.add(fresh_line());
     list.comment(
         "w: a writer. Slots, head, count, whether no byte was written; o: opening, b: bytes, c: closing, t: so many",
@@ -32,15 +34,33 @@ pub fn add(list: &mut Stored, random: &mut Random) {
     full_of_bits(list);
     round_the_bits(list, random);
     list.comment(
-        "r: a reader. Bits, length, whether the last was a zero, slots, head, count; i: bits put in, p: so many",
+        "r: a reader. Whether it is for pauses, bits, length, whether the last was a zero, slots, head, count; i: bits",
     );
-    list.comment("characters taken out. An answer for each call, the record after.");
+    list.comment("put in, p: so many characters taken out. An answer for each call, the record after.");
     short_strings(list);
-    words_read(list);
-    full_of_characters(list);
+    words_read(list, ReaderLine::new);
+    full_of_characters(list, ReaderLine::new);
     round_the_characters(list, random);
     list.comment("w and r: forged records, which the Rust cannot have: by document 01 alone.");
     forged(list, random);
+}
+
+/// The reader for pauses. It comes last on the list, so that what stands before it has kept its random inputs.
+pub fn add_for_pauses(list: &mut Stored, random: &mut Random) {
+    list.comment(
+        "r: a reader for pauses, which the Rust does not have: from here on by the words of request 2026-01 alone.",
+    );
+    list.comment("Its example and the like, each character taken out as it comes; then pauses of up to 257 zeros.");
+    pauses(list);
+    list.comment("The words that the old reader read above, whole ones and too long ones.");
+    words_read(list, ReaderLine::for_pauses);
+    list.comment("Full queues: the zero that ends a word is refused, and does so once there is room.");
+    full_of_characters(list, ReaderLine::for_pauses);
+    full_at_the_ending_zero(list);
+    list.comment("Forged records.");
+    for _ in 0..FORGED / 2 {
+        forged_reader(list, inputs::reader_for_pauses(random));
+    }
 }
 
 fn writer(list: &mut Stored, line: WriterLine) {
@@ -126,8 +146,7 @@ fn short_strings(list: &mut Stored) {
 }
 
 /// The bench sheet's, words of every length about the longest, zeros before them, and bits above 1 between.
-fn words_read(list: &mut Stored) {
-    let new = ReaderLine::new;
+fn words_read(list: &mut Stored, new: fn() -> ReaderLine) {
     for bits in [
         "11 00",
         "0 11 00",
@@ -159,14 +178,15 @@ fn words_read(list: &mut Stored) {
     }
 }
 
-fn full() -> ReaderLine {
-    (0..CHARS).fold(ReaderLine::new(), |line, at| {
+fn filled(line: ReaderLine) -> ReaderLine {
+    (0..CHARS).fold(line, |line, at| {
         line.bits(["1 00", "11 00", "101 00", "1111 00"][at % 4])
     })
 }
 
 /// The queue full, the bit that ends one word too many, and room freed.
-fn full_of_characters(list: &mut Stored) {
+fn full_of_characters(list: &mut Stored, new: fn() -> ReaderLine) {
+    let full = || filled(new());
     reader(list, full());
     reader(
         list,
@@ -188,7 +208,7 @@ fn full_of_characters(list: &mut Stored) {
 
 /// Room freed by taking out is used again, round the array's end.
 fn round_the_characters(list: &mut Stored, random: &mut Random) {
-    let mut line = full().take(50);
+    let mut line = filled(ReaderLine::new()).take(50);
     for _ in 0..120 {
         line = line.bits(["1 00", "11 00", "10111 00"][random.below(3)]);
         line = line.take(random.below(3));
@@ -204,8 +224,44 @@ fn forged(list: &mut Stored, random: &mut Random) {
         let line = WriterLine::forged(record).take(random.below(3)).text(*b"e");
         let line = line.open(random.below(BITS) as u64).close(random.below(BITS) as u64);
         list.add(line.text(*b"t").take(3).line());
-        let record = inputs::reader(random);
-        reader(list, ReaderLine::forged(record.clone()));
-        list.add(ReaderLine::forged(record).put(2).bits("0 11 00").take(2).line());
+        forged_reader(list, inputs::reader(random));
     }
+}
+
+fn forged_reader(list: &mut Stored, record: ReaderRecord) {
+    reader(list, ReaderLine::forged(record.clone()));
+    list.add(ReaderLine::forged(record).put(2).bits("0 11 00").take(2).line());
+}
+
+/// The request's example, zeros before and between words up to hundreds, and what is left at the end of the bits.
+fn pauses(list: &mut Stored) {
+    let new = ReaderLine::for_pauses;
+    let taken = |line: ReaderLine, bit: char| line.put(u8::from(bit == '1')).take(1);
+    for bits in [
+        "01100",
+        "00",
+        "11000",
+        "11000110",
+        "110000110000",
+        "1000100",
+        "0101000100",
+    ] {
+        reader(list, bits.chars().fold(new(), taken));
+    }
+    for zeros in [1, 2, 3, 4, 7, 8, 31, 100, 257] {
+        let opened = new().put_times(0, zeros).bits("11").put_times(0, zeros);
+        reader(list, opened.bits("101").put_times(0, zeros).bits("1"));
+    }
+}
+
+/// Zeros refused and one that brings the character once there is room, zeros behind it that bring nothing, and a 1
+/// after a refused zero, which joins.
+fn full_at_the_ending_zero(list: &mut Stored) {
+    let full = || filled(ReaderLine::for_pauses());
+    for refused in 1..=3 {
+        let line = full().bits("000 10101 0").put_times(0, refused).take(1);
+        reader(list, line.bits("0 000 11 0").take(1).bits("0 00"));
+    }
+    reader(list, full().bits("1 0 0 1 0").take(1).bits("0 0 1 0 0"));
+    reader(list, full().bits("1010101010 0").take(1).bits("1 00 11 00"));
 }

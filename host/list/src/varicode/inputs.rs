@@ -11,15 +11,28 @@ pub fn writer(random: &mut Random) -> WriterRecord {
     }
 }
 
-/// A reader's, often at the end of a word.
+/// An old reader's, often at the end of a word.
 pub fn reader(random: &mut Random) -> ReaderRecord {
     let (shift, len) = heard(random);
     ReaderRecord {
+        pauses: false,
         shift,
         len,
         zero: random.below(3) > 0,
         chars: ring::<CHARS>(random),
     }
+}
+
+/// A reader's for pauses: the same, and now and then with a length that is read as 0.
+pub fn reader_for_pauses(random: &mut Random) -> ReaderRecord {
+    let mut record = ReaderRecord {
+        pauses: true,
+        ..reader(random)
+    };
+    if random.below(4) == 0 {
+        record.len = 12 * random.below(22) as u8;
+    }
+    record
 }
 
 /// Any slots, of bits or of bytes, and any head and count.
@@ -60,5 +73,23 @@ fn heard(random: &mut Random) -> (u16, u8) {
         2 => (ended, any),
         3 => (ended | (random.number() as u16) << len.min(15), len),
         _ => (random.number() as u16, any),
+    }
+}
+
+#[cfg(test)]
+mod tests {
+    use super::*;
+
+    #[test]
+    fn forged_readers_for_pauses_have_heard_nothing_now_and_then_whatever_else_is_in_them() {
+        let random = &mut Random::new(1);
+        let records: Vec<ReaderRecord> = (0..1000).map(|_| reader_for_pauses(random)).collect();
+        assert!(records.iter().all(|record| record.pauses));
+        let nothing = records.iter().filter(|record| record.len % 12 == 0);
+        assert!((200..400).contains(&nothing.clone().count()));
+        for zero in [false, true] {
+            let mut beyond = nothing.clone().filter(|record| record.len > 0 && record.shift > 0);
+            assert!(beyond.any(|record| record.zero == zero));
+        }
     }
 }

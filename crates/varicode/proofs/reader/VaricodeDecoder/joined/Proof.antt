@@ -13,7 +13,7 @@ made shift b len = record { shift = (2 * shift + b) % 65536; len = len; prevZero
 returns : tie.Need-returns
 returns c =
     let start : tie.Start = search in
-    record { heard = ap (made (start .args .self .shift) (start .args .bit)) (c .count-up .ensures); chars = refl }
+    record { pauses = refl; heard = ap (made (start .args .self .shift) (start .args .bit)) (c .count-up .ensures); chars = refl }
 
 pub joined-spec : {M : Type 1} → statement M
 joined-spec = tie.close (tie.spec (search needs) (search needs) (search needs) (search needs) (search needs) returns)

@@ -5,14 +5,15 @@ use Prim.Native.Nat.{ℕ}
 use borrow.Author.Needs.{needs}
 use lib.Dec.{lit<}
 use Rattle.queue.specs.Ring.{Ring, charRoom}
-use Rattle.varicode.specs.Reader.{Reader, Heard}
+use Rattle.varicode.specs.Reader.{Reader}
 use Rattle.varicode.specs.Records.{reader}
 use Rattle.varicode.proofs.Takes.{within, taken-nothing, left-in-range, holds-some, taken-front, left-rest}
 use Rattle.varicode.proofs.reader.VaricodeDecoder.pop_char.Statement.{statement}
 use Rattle.varicode.proofs.reader.VaricodeDecoder.pop_char.Tie as tie
 
-abbrev made : Heard → Ring → Reader
-made h p = record { heard = h; chars = p }
+-- the reader with these characters
+abbrev with-chars : Reader → Ring → Reader
+with-chars r q = record { pauses = r .pauses; heard = r .heard; chars = q }
 
 returns : tie.Need-returns
 returns c =
@@ -21,7 +22,7 @@ returns c =
     let read = queue .read .ensures in
     record {
       answer = sym (taken-nothing charRoom (lit< tt) _ _ read (c .if1 .taken));
-      state = ap (made (reader (start .args .self) .heard)) (sym (left-in-range charRoom (lit< tt) _ _ read (c .if1 .taken)));
+      state = ap (with-chars (reader (start .args .self))) (sym (left-in-range charRoom (lit< tt) _ _ read (c .if1 .taken)));
     }
 
 rest-requires : tie.Need-rest-requires
@@ -41,10 +42,10 @@ returns-2 c =
     let queue : tie.After-read = search in
     let start : tie.Start = search in
     let read = queue .read .ensures in
-    let heard = reader (start .args .self) .heard in
+    let after = left-rest charRoom (lit< tt) _ _ read (some .if1 .left) in
     record {
       answer = ap (λ (v : ℕ). v ∷ []) (c .front .ensures) ∙ sym (taken-front charRoom (lit< tt) _ _ read (some .if1 .left));
-      state = ap (made heard) (others .rest .ensures ∙ sym (left-rest charRoom (lit< tt) _ _ read (some .if1 .left)));
+      state = ap (with-chars (reader (start .args .self))) (others .rest .ensures ∙ sym after);
     }
 
 pub pop-char-spec : {M : Type 1} → statement M

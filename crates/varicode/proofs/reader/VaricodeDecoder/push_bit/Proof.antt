@@ -1,6 +1,6 @@
 -- `varicode::reader::VaricodeDecoder::push_bit`: the ways of a bit. Assumes nothing.
 use mathlib.Core.Logic.{⊎-elim}
-use mathlib.Core.Path.{refl}
+use mathlib.Core.Path.{refl, sym, _∙_}
 use borrow.Author.Needs.{needs}
 use borrow.Author.Tests.{eq-eqb, ne-eqb}
 use Rattle.varicode.proofs.Bits.{pushes-bad, pushes-joined}
@@ -13,6 +13,11 @@ returns c =
     let start : tie.Start = search in
     pushes-bad (start .args .self) _ _ (above .if1 .taken) (c .not-done .ensures) refl
 
+end-word-requires : tie.Need-end-word-requires
+end-word-requires c κs =
+    let told : tie.After-zero-ends = search in
+    sym (told .zero-ends .ensures) ∙ c .if3 .taken
+
 returns-2 : tie.Need-returns-2
 returns-2 c =
     let zero : tie.Then2 = search in
@@ -24,8 +29,13 @@ returns-3 c =
     let bit : tie.Else1 = search in
     let start : tie.Start = search in
     pushes-joined (start .args .self) (start .args .bit) _ (bit .if1 .left)
-    (⊎-elim (λ w. rw (eq-eqb _ _ (w .0 .taken)) (w .1 .left)) (λ w. rw (ne-eqb _ _ (w .left))) (goes-on .if2 .came))
+    (⊎-elim
+    (λ w. let (zero, told, on) = w in rw (eq-eqb _ _ (zero .taken)) (sym (told .ensures) ∙ on .left))
+    (λ w. rw (ne-eqb _ _ (w .left)))
+    (goes-on .if2 .came))
     refl (c .joined .ensures)
 
 pub push-bit-spec : {M : Type 1} → statement M
-push-bit-spec = tie.close (tie.spec (search needs) returns (λ c κs. search needs) returns-2 (λ c κs. search needs) returns-3)
+push-bit-spec =
+    tie.close
+    (tie.spec (search needs) returns (λ c κs. search needs) end-word-requires returns-2 (λ c κs. search needs) returns-3)
