@@ -2,7 +2,7 @@
 -- what the call is given, what it returns, and what it leaves in each argument. The two in place are walks by hand, of which
 -- the prover reads no `Post`: their laws are over the records that their contracts cite. Assumes nothing.
 use mathlib.Core.List.{List}
-use mathlib.Core.Path.{sym, _∙_}
+use mathlib.Core.Path.{_≡_, sym, _∙_}
 use Prim.Native.Nat.{ℕ}
 use lib.Ieee.{Float}
 use Rattle.refusal.specs.Answer.{Numbers}
@@ -15,6 +15,7 @@ use Rattle.streaming.proofs.Unique.{held-told, feeds-once, flushes-once}
 use Rattle.bench_calls.specs.Number.{EmitNumbers}
 use Rattle.bench_calls.proofs.timed_viterbi_decode.Reads as timed-viterbi-decode
 use Rattle.bench_calls.proofs.timed_stream.Reads as timed-stream
+use Rattle.bench_calls.proofs.timed_varicode_decode.Reads as timed-varicode-decode
 
 pub timed-decode-once :
     (κs soft out scratch : _) →
@@ -42,3 +43,8 @@ pub timed-flush-once :
 timed-flush-once d old r r' left left' out out' p q =
     let (answer, state, output) = flushes-once Numbers numbers-tell (held d) old r r' _ _ out out' p q in
     (answer, held-told left left' state, output)
+
+pub timed-varicode-decode-once :
+    (κs given : _) (r r' : ℕ) (left left' : _) →
+    timed-varicode-decode.Post κs given r left → timed-varicode-decode.Post κs given r' left' → r ≡ r'
+timed-varicode-decode-once κs given r r' left left' p q = p ∙ sym q

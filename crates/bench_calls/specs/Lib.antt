@@ -1,5 +1,5 @@
--- Stream: what a fresh streaming decoder gives for a list of symbols. Number: a symbol's answer as one number. Promise:
--- what the functions promise that no entry does. Inner: what the inner functions ensure.
+-- Stream: what a fresh streaming decoder gives for a list of symbols. Number: answers as one number. Promise: what the
+-- functions promise that no entry does. Inner: what the inner functions ensure.
 pub mod Stream
 pub mod Number
 pub mod Promise

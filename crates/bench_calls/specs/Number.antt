@@ -1,4 +1,4 @@
--- A symbol's answer as one number. Definitions only.
+-- Answers as one number: a symbol's, and a looked-up byte. Definitions only.
 use mathlib.Core.List.{List, [], _∷_}
 use mathlib.Core.Path.{_≡_}
 use Prim.Native.Nat.{ℕ}
@@ -16,3 +16,8 @@ emittedNumber said = doorNumber (bitOrTwo said)
 -- how a promise reads such a number
 abbrev pub EmitNumbers : ℕ → Said (List ℕ) → Type 0
 EmitNumbers r said = r ≡ emittedNumber said
+
+-- a looked-up byte, or 256 where there is none
+abbrev pub letterNumber : List ℕ → ℕ
+letterNumber [] = 256
+letterNumber (b ∷ bs) = b

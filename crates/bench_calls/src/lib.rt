@@ -9,12 +9,14 @@ ghost use Rattle.streaming.specs.Said.{emittedSaid};
 ghost use Rattle.streaming.specs.Decoder.{held};
 ghost use Rattle.streaming.specs.Promise.{Feeds, Flushes};
 ghost use Rattle.symbols.specs.Promise.{DecodesSymbols};
-ghost use Rattle.bench_calls.specs.Number.{EmitNumbers};
+ghost use Rattle.varicode_words.specs.Word.{letterSaid, decodeOf};
+ghost use Rattle.bench_calls.specs.Number.{EmitNumbers, letterNumber};
 ghost use Rattle.bench_calls.specs.Promise.{Streams};
 ghost use Rattle.bench_calls.specs.Inner.{PutsBits};
 use refusal::Counted;
 use streaming::Emitted;
 use streaming::StreamingViterbi;
+use varicode_words::Letter;
 
 // The block decoder of symbols.
 #[no_mangle]
@@ -92,4 +94,22 @@ pub extern "C" fn timed_flush(d: &mut StreamingViterbi, out: &mut [u8]) -> u64
     ensures { λ r. ⌜ Flushes (Numbers r) (held (now (d .entry))) (held (now (d .exit))) (lent out) ⌝ }
 {
     refusal::count_number(streaming::flush(d, out))
+}
+
+// A looked-up byte as one number: the byte, or 256 where there is none.
+fn letter_number(letter: Letter) -> u64
+    ensures { λ r. ⌜ r ≡ letterNumber (letterSaid letter) ⌝ }
+{
+    match letter {
+        Letter::Byte(b) => b as u64,
+        Letter::Nothing => 256,
+    }
+}
+
+// The Varicode lookup.
+#[no_mangle]
+pub extern "C" fn timed_varicode_decode(bits: u16, len: u8) -> u64
+    ensures { λ r. ⌜ r ≡ letterNumber (decodeOf bits len) ⌝ }
+{
+    letter_number(varicode_words::varicode_decode(bits, len))
 }

@@ -1,13 +1,14 @@
--- What is no word: a value of 1,024 or more, and nothing is found by the length 0, each by one test over the 128 words; so bits that
--- begin and end with 1, hold no 00 and are over ten are none, nor are the lowest fifteen of them. Assumes nothing.
-use mathlib.Core.Bool.{Bool, false, _&&_, and-false}
+-- What is no word: a value of 1,024 or more, by one test over the 128 words; nothing is found by another length than a value's own, nor
+-- by the length 0; so bits that begin and end with 1, hold no 00 and are over ten are none, nor are the lowest fifteen of them. Assumes
+-- nothing.
+use mathlib.Core.Bool.{Bool, true, false, _&&_, and-false}
 use mathlib.Core.List.{List, [], _∷_}
 use mathlib.Core.Logic.{⊎-elim}
 use mathlib.Core.Path.{_≡_, refl, sym, ap, _∙_}
 use Prim.Native.Nat.{ℕ, suc, _+_, _-_, _*_, _%_, _^_, _≤_, _<_}
 use native.Mathlib.Nat.{mod-eq-of-lt, lt-of-lt-of-le, le-trans, mul-add-mod-self-right, mul-assoc, eq-zero-or-pos}
 use native.Mathlib.Omega.{arith}
-use borrow.Author.Tests.{ne-eqb}
+use borrow.Author.Tests.{ne-eqb, eqb-true}
 use lib.Dec.{T, ltb, eqb, ltb→lt, lit<}
 use lib.ListN.{length}
 use lib.Pow.{pow-mono, pow-add}
@@ -39,6 +40,16 @@ decode-large v len large = none-found below-1024 v len differs words 0 0 tt
   where
     differs : (i w : ℕ) → T (below-1024 i w) → eqb w v && eqb (lengthOf w) len ≡ false
     differs i w t = rw (ne-eqb w v (λ e. omega (arith, ltb→lt w 1024 t)))
+
+-- ---- another length than the value's own
+
+pub decode-other-length : (v len : ℕ) → (lengthOf v ≡ len → ⊥) → decodeOf v len ≡ []
+unfolding decodeOf
+decode-other-length v len other = none-found (λ i w. true) v len (λ i w t. differs w (eqb w v) refl) words 0 0 tt
+  where
+    differs : (w : ℕ) (here : Bool) → eqb w v ≡ here → eqb w v && eqb (lengthOf w) len ≡ false
+    differs w true e = rw (e, ne-eqb (lengthOf w) len (λ same. other (ap lengthOf (sym (eqb-true w v e)) ∙ same)))
+    differs w false e = rw e
 
 -- ---- the length 0
 

@@ -1,7 +1,9 @@
 // Varicode: the word of each byte, and the byte of each word, by Martinez's table of 1998.
 ghost use mathlib.Core.Path.{_≡_};
 ghost use Prim.Native.Nat.{_<_};
-ghost use Rattle.varicode_words.specs.Word.{Spells, letterSaid, decodeOf};
+ghost use Rattle.varicode_words.specs.Word.{Spells, lengthOf, letterSaid, decodeOf};
+
+mod bytes;
 
 // A word: its bits, the last one lowest, and how many there are.
 pub struct Word {
@@ -300,18 +302,25 @@ pub fn varicode_encode(byte: u8) -> Word
     }
 }
 
-// The byte whose word has these bits and this length, if there is one.
+// How many bits a value has in binary, from its first 1 on.
+fn length_of(bits: u16) -> u8
+    ensures { λ r. ⌜ r ≡ lengthOf bits ⌝ }
+{
+    (16 - u16::leading_zeros(bits)) as u8
+}
+
+// The byte whose word has these bits and this length, if there is one. A word begins with 1, so that its value has one
+// length, its own.
 pub fn varicode_decode(bits: u16, len: u8) -> Letter
     ensures { λ r. ⌜ letterSaid r ≡ decodeOf bits len ⌝ }
 {
-    for i in 0..128 {
-        let word = word_at(i);
-        if word.bits == bits {
-            if word.len == len {
-                let byte = i as u8;
-                return Letter::Byte(byte);
-            }
-        }
+    let value = bits as usize;
+    if value >= bytes::VALUES {
+        return Letter::Nothing;
     }
-    Letter::Nothing
+    let own = length_of(bits);
+    if own != len {
+        return Letter::Nothing;
+    }
+    bytes::letter_of(bytes::entry_at(value))
 }

@@ -4,6 +4,7 @@
 mod clock;
 mod decoder;
 mod encoder;
+mod lookup;
 mod streaming;
 mod symbols;
 
@@ -16,4 +17,5 @@ fn main() {
     decoder::run();
     symbols::run();
     streaming::run();
+    lookup::run();
 }

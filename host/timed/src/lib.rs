@@ -17,6 +17,7 @@ mod foreign {
         pub fn timed_stream(soft: *const f32, soft_len: usize, out: *mut u8, out_len: usize) -> u64;
         pub fn timed_feed(decoder: *mut Streaming, re: f32, im: f32) -> u64;
         pub fn timed_flush(decoder: *mut Streaming, out: *mut u8, out_len: usize) -> u64;
+        pub fn timed_varicode_decode(bits: u16, len: u8) -> u64;
     }
 
     // The record is laid out as the proved code has it.
@@ -42,6 +43,12 @@ pub fn viterbi_decode(soft: &[f32], out: &mut [u8], scratch: &mut [u8]) -> u64 {
 pub fn stream(soft: &[f32], out: &mut [u8]) -> u64 {
     // SAFETY: as above.
     unsafe { foreign::timed_stream(soft.as_ptr(), soft.len(), out.as_mut_ptr(), out.len()) }
+}
+
+/// The Varicode lookup: the byte whose word has these bits and this length, if there is one.
+pub fn varicode_decode(bits: u16, len: u8) -> Option<u8> {
+    // SAFETY: numbers alone cross.
+    u8::try_from(unsafe { foreign::timed_varicode_decode(bits, len) }).ok()
 }
 
 /// A streaming decoder's metrics and counters.

@@ -5,10 +5,6 @@ use expected::Random;
 use expected::varicode::{BITS, CHARS, ReaderRecord};
 use list::varicode::{ReaderLine, WriterLine, fresh_line, inputs, lookup_line, word_line};
 
-/// The lengths at which every value is looked up: those that words have and their neighbours, that of the shift, and
-/// two far ones. The comparison has them all, which takes minutes where the program runs under an emulator.
-const LENGTHS: [u8; 15] = [0, 1, 2, 3, 4, 5, 6, 7, 8, 9, 10, 11, 16, 128 + 10, 255];
-
 /// Every string of bits up to this many is listed.
 const ALL_BITS: usize = 6;
 
@@ -21,7 +17,7 @@ pub fn add(list: &mut Stored, random: &mut Random) {
     list.comment(
         "d: the bytes of all 65536 values at a length. Length; the values that are words, each with its byte.",
     );
-    LENGTHS.into_iter().for_each(|len| list.add(lookup_line(len)));
+    (0..=u8::MAX).for_each(|len| list.add(lookup_line(len)));
     list.comment(
         "m: a fresh writer, a fresh reader and one for pauses. Their records, as the lines w and r have them.",
     );
