@@ -15,17 +15,17 @@ use call_lines::print::put_number;
 use call_lines::print::write_front;
 use queue::BitQueue;
 use queue::CharQueue;
+use queue::Taken;
 use refusal::Counted;
 use refusal::Put;
 use refusal::count_number;
-use varicode::NextBit;
-use varicode::NextChar;
-use varicode::Pushed;
-use varicode::Taken;
-use varicode::VaricodeDecoder;
-use varicode::VaricodeEncoder;
-use varicode::Wrote;
+use varicode_reader::NextChar;
+use varicode_reader::Pushed;
+use varicode_reader::VaricodeDecoder;
 use varicode_words::Letter;
+use varicode_writer::NextBit;
+use varicode_writer::VaricodeEncoder;
+use varicode_writer::Wrote;
 
 // `v BYTE`. Prints its word's bits and length.
 pub fn word(line: &[u8]) {

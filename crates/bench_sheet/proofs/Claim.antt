@@ -10,8 +10,8 @@ use Rattle.correlation.specs.Decode.{word, score}
 use Rattle.trellis.specs.Choice.{codeOf, patternOf}
 use Rattle.trellis.specs.Codeword.{codeword}
 use Rattle.trellis.specs.State.{nextState}
-use Rattle.varicode.specs.Reader.{zeroEnds, lettersFrom}
-use Rattle.varicode.specs.Writer.{streamFrom}
+use Rattle.varicode_reader.specs.Reader.{zeroEnds, lettersFrom}
+use Rattle.varicode_writer.specs.Writer.{streamFrom}
 use Rattle.varicode_words.specs.Word.{wordOf, bitsOf, decodeOf}
 use Rattle.bench_sheet.specs.Sheet.{SheetLine, reads, AllHold, none, more, sheet}
 use Rattle.bench_sheet.proofs.Tested.{holds}

@@ -12,8 +12,8 @@ use Rattle.trellis.specs.Choice.{codeOf, patternOf}
 use Rattle.trellis.specs.Codeword.{stepsOf, codeword}
 use Rattle.trellis.specs.Keep.{codedLength}
 use Rattle.varicode_words.proofs.Table.{same, same-equal}
-use Rattle.varicode.specs.Reader.{nothingHeard, lettersFrom}
-use Rattle.varicode.specs.Writer.{byte, streamFrom}
+use Rattle.varicode_reader.specs.Reader.{nothingHeard, lettersFrom}
+use Rattle.varicode_writer.specs.Writer.{byte, streamFrom}
 use Rattle.bench_sheet.specs.Sheet.{SheetLine, coded, lengths, decodes, scores, ties, writes, reads, readsPauses, Holds}
 
 -- lists that the test finds the same are equal

@@ -12,8 +12,8 @@ use Rattle.forward.specs.Decode.{word, score}
 use Rattle.trellis.specs.Choice.{codeOf, patternOf}
 use Rattle.trellis.specs.Codeword.{stepsOf, codeword}
 use Rattle.trellis.specs.Keep.{codedLength}
-use Rattle.varicode.specs.Reader.{nothingHeard, lettersFrom}
-use Rattle.varicode.specs.Writer.{byte, streamFrom}
+use Rattle.varicode_reader.specs.Reader.{nothingHeard, lettersFrom}
+use Rattle.varicode_writer.specs.Writer.{byte, streamFrom}
 
 -- a line: the coded bits of an info word at a rate; the coded lengths of an info count at the five rates; the word, and
 -- the score, that readings are decoded to; two words that score the same; the bits that a fresh writer puts for a text;

@@ -4,7 +4,9 @@ use mathlib.Core.Path.{_≡_, sym, ap, _∙_}
 use Prim.Native.Nat.{ℕ}
 use Rattle.queue.specs.declared.BitQueue.{BitQueue}
 use Rattle.queue.specs.declared.CharQueue.{CharQueue}
-use Rattle.queue.specs.Records.{bits, chars}
+use Rattle.queue.specs.declared.Taken.{Taken}
+use Rattle.queue.specs.declared.Taken.the-variants as taking
+use Rattle.queue.specs.Records.{bits, chars, takenSaid}
 use Rattle.queue.specs.Ring.{Ring}
 use Rattle.queue.proofs.BitQueue.new.Reads as bit-new
 use Rattle.queue.proofs.BitQueue.read.Reads as bit-read
@@ -30,6 +32,13 @@ charQueueOf q = record { slots = q .slots; head = q .head; count = q .count }
 
 chars-told : (q q' : CharQueue) → chars q ≡ chars q' → q ≡ q'
 chars-told q q' = ap charQueueOf
+
+-- what is taken out is fixed by what is said of it
+pub taken-told : (a b : Taken) → takenSaid a ≡ takenSaid b → a ≡ b
+taken-told (taking.One u) (taking.One v) e = cc
+taken-told (taking.One u) taking.Nothing e = cc
+taken-told taking.Nothing (taking.One v) e = cc
+taken-told taking.Nothing taking.Nothing e = cc
 
 pub bit-new-determined :
     (κs : _) (given : _) (r r' : BitQueue) (left left' : _) → bit-new.Post κs given r left → bit-new.Post κs given r' left' → r ≡ r'

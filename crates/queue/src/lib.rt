@@ -23,6 +23,12 @@ pub struct CharQueue {
     pub count: usize,
 }
 
+// What is taken out of a queue: a bit or a character, or nothing where it is empty.
+pub enum Taken {
+    One(u8),
+    Nothing,
+}
+
 impl BitQueue {
     pub fn new() -> BitQueue
         ensures { λ r. ⌜ bits r ≡ empty bitRoom ⌝ }

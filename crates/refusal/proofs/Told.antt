@@ -1,7 +1,7 @@
 -- An answer is fixed by what document 01 says of it: two answers of which it says the same are equal. And what is accepted
 -- passed each test. Assumes nothing.
 use mathlib.Core.Bool.{Bool, true, false}
-use mathlib.Core.Path.{_≡_, sym, ap, ap₂, _∙_}
+use mathlib.Core.Path.{_≡_, refl, sym, ap, ap₂, _∙_}
 use Prim.Native.Nat.{ℕ}
 use Rattle.refusal.specs.Answer.{Said, accepted, refused, refuseWhen, countSaid, wordSaid, doneSaid}
 use Rattle.refusal.specs.Answer.{Counts, Numbers, Scores, ScoreNumbers}
@@ -62,6 +62,11 @@ pub accepted-past :
     refuseWhen test number rest ≡ accepted a → rest ≡ accepted a
 accepted-past true number rest a e = cc
 accepted-past false number rest a e = e
+
+pub accepted-passed :
+    {A : Type 0} (test : Bool) (number : ℕ) (rest : Said A) (a : A) → refuseWhen test number rest ≡ accepted a → test ≡ false
+accepted-passed true number rest a e = cc
+accepted-passed false number rest a e = refl
 
 -- ---- what a test says
 

@@ -1,0 +1,3 @@
+-- Puts: the calls that put bits. Unique: each contract allows one outcome at most.
+pub mod Puts
+pub mod Unique
