@@ -14,11 +14,12 @@ use Rattle.read_back.specs.Runs.{WriterRun, start, puts, takes, Fits, Al
 use Rattle.read_back.proofs.WriterRuns.{writer-holds}
 
 pub drained-refuses-none :
-    (w : Writer) (c : Call) → w .pending .count ≡ 0 → length (bitsPut (w .first) c) ≤ bitRoom → putSaid w c ≡ accepted tt
+    (w : Writer) (c : Call) → w .pending .count ≡ 0 → Fits c → putSaid w c ≡ accepted tt
 unfolding putSaid tooMany
 drained-refuses-none w c none fits =
-    let enough = le-ltb bitRoom (readAs bitRoom (w .pending) .count + length (bitsPut (w .first) c)) (omega (arith, none)) in
-    rw enough
+    let put = length (bitsPut (w .first) c) in
+    let enough = le-ltb bitRoom (readAs bitRoom (w .pending) .count + put) (omega (arith, none, fits .few (w .first))) in
+    rw (fits .low, enough)
 
 -- a run of these calls after which nothing is left
 pub record Drained (calls : List Call) : Type 0 where
@@ -38,7 +39,7 @@ pub run-drained : {w : Writer} {calls : List Call} {out : List ℕ} → WriterRu
 run-drained run = drained-of _ run refl
 
 one-more : {calls : List Call} → Drained calls → (c : Call) → Fits c → Drained (calls ++ c ∷ [])
-one-more d c fits = run-drained (puts (d .wrote) c (drained-refuses-none (d .writer) c (d .none) (fits (d .writer .first))))
+one-more d c fits = run-drained (puts (d .wrote) c (drained-refuses-none (d .writer) c (d .none) fits))
 
 all-more : (before calls : List Call) → Drained before → AllFit calls → Drained (before ++ calls)
 all-more before [] d fit = subst Drained (sym (append-nil before)) d

@@ -1,23 +1,23 @@
--- Read-back's premise can be met, for either reader: calls that fit can all be relayed, and so can every text, with any opening and any
--- closing that fit, or with no opening. So can that of pauses. Assumes nothing.
+-- Read-back's premise can be met, for either reader: calls that fit can all be relayed, and so can every text of bytes below 128, with any
+-- opening and any closing that fit, or with no opening. So can that of pauses. Assumes nothing.
 use mathlib.Core.Bool.{Bool, true, false}
 use mathlib.Core.List.{List, [], _∷_, _++_}
 use mathlib.Core.Path.{_≡_, sym, subst}
-use Prim.Native.Nat.{ℕ, _+_, _≤_}
+use Prim.Native.Nat.{ℕ, _≤_}
 use native.Mathlib.Omega.{arith}
 use lib.Dec.{lit<}
 use lib.ListN.{length, replicate}
-use Rattle.binary.proofs.Values.{Bits, none, digits-bits}
+use Rattle.binary.proofs.Values.{Bits}
 use Rattle.queue.specs.Ring.{inside, elements, bitRoom}
-use Rattle.varicode_words.specs.Word.{lengthOf, wordOf, bitsOf}
 use Rattle.varicode_words.proofs.Facts.{any-word-length}
 use Rattle.varicode_writer.specs.Writer.{Call, opening, byte, closing, gap}
+use Rattle.varicode_writer.proofs.Puts.{opening-not-high, closing-not-high, low-byte-not-high, not-high-byte-low}
 use Rattle.varicode_writer.proofs.Puts.{length-opening, length-byte, length-closing}
-use Rattle.read_back.specs.Runs.{written, Relayed, Fits, AllFit}
-use Rattle.read_back.specs.Claims.{Key, zerosBehind, keyed}
+use Rattle.read_back.specs.Runs.{Text, none, more, written, Relayed, Fits, AllFit, OpeningsFit, BytesFit, ClosingsFit}
+use Rattle.read_back.specs.Claims.{Key, keyed}
 use Rattle.read_back.proofs.Drained.{calls-drained}
 use Rattle.read_back.proofs.Emptied.{Emptied, bits-emptied}
-use Rattle.read_back.proofs.Streams.{append-bits, run-bits, stream-bits}
+use Rattle.read_back.proofs.Streams.{append-bits, run-bits, stream-bits, keyed-bits}
 use Rattle.read_back.proofs.WriterRuns.{all-handed-out}
 
 pub calls-relayed : (p : Bool) (calls : List Call) → AllFit calls → Relayed p calls
@@ -34,40 +34,42 @@ gap-short : (first : Bool) → length (gap first) ≤ length (gap false)
 gap-short true = omega arith
 gap-short false = omega arith
 
--- openings of as many zeros as the queue has room for, and no others
-pub opening-fits : (n : ℕ) → (n ≤ bitRoom → Fits (opening n)) × (Fits (opening n) → n ≤ bitRoom)
-opening-fits n = ((λ few first. omega (arith, length-opening first n)), (λ fits. omega (arith, fits true, length-opening true n)))
+pub opening-fits : OpeningsFit
+opening-fits n = (
+  (λ few. record { low = opening-not-high n; few = λ first. omega (arith, length-opening first n) }),
+  (λ fits. omega (arith, fits .few true, length-opening true n)),
+)
 
--- every byte
-pub byte-fits : (b : ℕ) → Fits (byte b)
-byte-fits b first = omega (arith, length-byte first b, gap-short first, any-word-length b .1)
+pub byte-fits : BytesFit
+byte-fits b = (
+  (λ low.
+      record {
+        low = low-byte-not-high b low;
+        few = λ first. omega (arith, length-byte first b, gap-short first, any-word-length b .1);
+      }),
+  (λ fits. not-high-byte-low b (fits .low)),
+)
 
--- closings that leave room for the gap, and no others
-pub closing-fits : (n : ℕ) → (length (gap false) + n ≤ bitRoom → Fits (closing n)) × (Fits (closing n) → length (gap false) + n ≤ bitRoom)
-closing-fits n =
-    ((λ few first. omega (arith, length-closing first n, gap-short first)), (λ fits. omega (arith, fits false, length-closing false n)))
+pub closing-fits : ClosingsFit
+closing-fits n = (
+  (λ few. record { low = closing-not-high n; few = λ first. omega (arith, length-closing first n, gap-short first) }),
+  (λ fits. omega (arith, fits .few false, length-closing false n)),
+)
 
 -- ---- every text
 
-text-fits : (text : List ℕ) (n : ℕ) → Fits (closing n) → AllFit (written text n)
-text-fits [] n fits = (fits, tt)
-text-fits (b ∷ text) n fits = (byte-fits b, text-fits text n fits)
+text-fits : {text : List ℕ} → Text text → (n : ℕ) → Fits (closing n) → AllFit (written text n)
+text-fits none n fits = (fits, tt)
+text-fits (more {b} low t) n fits = (byte-fits b .0 low, text-fits t n fits)
 
-module _ (p : Bool) (text : List ℕ) where
+module _ (p : Bool) {text : List ℕ} (t : Text text) where
   pub text-relayed : (k n : ℕ) → Fits (opening k) → Fits (closing n) → Relayed p (opening k ∷ written text n)
-  text-relayed k n opens closes = calls-relayed p (opening k ∷ written text n) (opens, text-fits text n closes)
+  text-relayed k n opens closes = calls-relayed p (opening k ∷ written text n) (opens, text-fits t n closes)
 
   pub unopened-text-relayed : (n : ℕ) → Fits (closing n) → Relayed p (written text n)
-  unopened-text-relayed n closes = calls-relayed p (written text n) (text-fits text n closes)
+  unopened-text-relayed n closes = calls-relayed p (written text n) (text-fits t n closes)
 
 -- ---- every text that is keyed
-
-keyed-bits : (keys : List Key) → Bits (keyed keys)
-unfolding keyed bitsOf
-keyed-bits [] = none
-keyed-bits (k ∷ ks) =
-    append-bits (digits-bits (lengthOf (wordOf (k .letter))) (wordOf (k .letter)))
-    (append-bits (run-bits (zerosBehind k) 0 (lit< tt)) (keyed-bits ks))
 
 pub keys-emptied : (p : Bool) (keys : List Key) (k n : ℕ) → Emptied p (replicate k 0 ++ (keyed keys ++ replicate n 1))
 keys-emptied p keys k n =

@@ -1,4 +1,4 @@
--- What a writer puts are bits, each below 2. Assumes nothing.
+-- What a writer puts, and what is keyed, are bits, each below 2. Assumes nothing.
 use mathlib.Core.Bool.{Bool, true, false}
 use mathlib.Core.List.{List, [], _∷_, _++_}
 use Prim.Native.Nat.{ℕ, zero, suc, _<_}
@@ -7,6 +7,7 @@ use lib.ListN.{replicate}
 use Rattle.binary.proofs.Values.{Bits, none, more, digits-bits}
 use Rattle.varicode_words.specs.Word.{lengthOf, wordOf, bitsOf}
 use Rattle.varicode_writer.specs.Writer.{Call, opening, byte, closing, gap, bitsPut, firstAfter, streamFrom}
+use Rattle.read_back.specs.Claims.{Key, zerosBehind, keyed}
 
 pub append-bits : {xs ys : List ℕ} → Bits xs → Bits ys → Bits (xs ++ ys)
 append-bits none s = s
@@ -30,3 +31,10 @@ pub stream-bits : (first : Bool) (calls : List Call) → Bits (streamFrom first 
 unfolding streamFrom
 stream-bits first [] = none
 stream-bits first (c ∷ cs) = append-bits (put-bits first c) (stream-bits (firstAfter first c) cs)
+
+pub keyed-bits : (keys : List Key) → Bits (keyed keys)
+unfolding keyed bitsOf
+keyed-bits [] = none
+keyed-bits (k ∷ ks) =
+    append-bits (digits-bits (lengthOf (wordOf (k .letter))) (wordOf (k .letter)))
+    (append-bits (run-bits (zerosBehind k) 0 (lit< tt)) (keyed-bits ks))

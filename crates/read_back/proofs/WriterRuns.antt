@@ -1,5 +1,5 @@
 -- The writer hands out what was put in, in order, whatever accepted calls come between. Assumes nothing.
-use mathlib.Core.Bool.{Bool, true}
+use mathlib.Core.Bool.{Bool, true, false}
 use mathlib.Core.List.{List, [], _∷_, _++_, append-assoc, append-nil}
 use mathlib.Core.Path.{_≡_, refl, sym, ap, ap₂, subst, _∙_}
 use Prim.Native.Nat.{ℕ, _+_, _≤_}
@@ -10,11 +10,11 @@ use Rattle.queue.specs.Ring.{Ring, InRange, readAs, putAll, inside, bitRoom}
 use Rattle.queue.specs.Take.{taken, left}
 use Rattle.queue.proofs.Rings.{empty-in-range, inside-empty, read-in-range, put-all-in-range, inside-put-all}
 use Rattle.queue.proofs.Handed.{handed, kept, behind}
-use Rattle.refusal.specs.Answer.{accepted}
-use Rattle.refusal.specs.Numbers.{queueFull}
-use Rattle.refusal.proofs.Told.{accepted-passed}
+use Rattle.refusal.specs.Answer.{accepted, refuseWhen}
+use Rattle.refusal.specs.Numbers.{queueFull, badByte}
+use Rattle.refusal.proofs.Told.{accepted-past, accepted-passed}
 use Rattle.varicode_writer.specs.Writer.{Call, bitsPut, firstAfter, streamFrom}
-use Rattle.varicode_writer.specs.Writer.{Writer, freshWriter, tooMany, putSaid, putLeaves, nextLeaves}
+use Rattle.varicode_writer.specs.Writer.{Writer, freshWriter, highByte, tooMany, putSaid, putLeaves, nextLeaves}
 use Rattle.read_back.specs.Runs.{WriterRun, start, puts, takes, finds-none}
 
 -- whether no byte was written, after several calls
@@ -45,6 +45,11 @@ pub record WriterHolds (w : Writer) (calls : List Call) (out : List ℕ) : Type 
 abbrev madeWriter : Ring → Bool → Writer
 madeWriter q b = record { pending = q; first = b }
 
+-- an accepted call gives no byte of 128 or above
+accepted-low : (w : Writer) (c : Call) → putSaid w c ≡ accepted tt → highByte c ≡ false
+unfolding putSaid
+accepted-low w c said = accepted-passed (highByte c) badByte (refuseWhen (tooMany w c) queueFull (accepted tt)) tt said
+
 writer-puts :
     (w : Writer) (calls : List Call) (out : List ℕ) (c : Call) → WriterHolds w calls out → putSaid w c ≡ accepted tt →
     WriterHolds (putLeaves w c) (calls ++ c ∷ []) out
@@ -52,12 +57,15 @@ unfolding putSaid putLeaves tooMany
 writer-puts w calls out c h said =
     let bits = bitsPut (w .first) c in
     let read = read-in-range (h .in-range) in
-    let free = accepted-passed (ltb bitRoom (readAs bitRoom (w .pending) .count + length bits)) queueFull (accepted tt) tt said in
+    let low = accepted-low w c said in
+    let over = ltb bitRoom (readAs bitRoom (w .pending) .count + length bits) in
+    let roomed = accepted-past (highByte c) badByte (refuseWhen over queueFull (accepted tt)) tt said in
+    let free = accepted-passed over queueFull (accepted tt) tt roomed in
     let held : readAs bitRoom (w .pending) .count ≡ w .pending .count = ap (λ (q : Ring). q .count) read in
     let room : w .pending .count + length bits ≤ bitRoom =
     rw held at (ltb-false bitRoom (readAs bitRoom (w .pending) .count + length bits) free) in
     let same : putLeaves w c ≡ madeWriter (putAll bitRoom (w .pending) bits) (firstAfter (w .first) c) =
-    rw free (ap (λ (q : Ring). madeWriter (putAll bitRoom q bits) (firstAfter (w .first) c)) read) in
+    rw (low, free) (ap (λ (q : Ring). madeWriter (putAll bitRoom q bits) (firstAfter (w .first) c)) read) in
     rw same
     (record {
       in-range = put-all-in-range (h .in-range) bits room;
@@ -92,6 +100,22 @@ writer-holds start = record { in-range = empty-in-range (lit< tt); flag = refl; 
 writer-holds (puts {w} {calls} {out} r c said) = writer-puts w calls out c (writer-holds r) said
 writer-holds (takes {w} {calls} {out} r v e) = writer-takes w calls out v (writer-holds r) e
 writer-holds (finds-none {w} {calls} {out} r e) = writer-finds-none w calls out (writer-holds r) e
+
+-- none of these calls gives a byte of 128 or above
+abbrev pub AllLow : List Call → Type 0
+AllLow [] = Unit
+AllLow (c ∷ cs) = (highByte c ≡ false) × AllLow cs
+
+low-snoc : (calls : List Call) (c : Call) → AllLow calls → highByte c ≡ false → AllLow (calls ++ c ∷ [])
+low-snoc [] c all low = (low, tt)
+low-snoc (d ∷ calls) c all low = (all .0, low-snoc calls c (all .1) low)
+
+-- so it is with the calls of every run, which were accepted
+pub run-low : {w : Writer} {calls : List Call} {out : List ℕ} → WriterRun w calls out → AllLow calls
+run-low start = tt
+run-low (puts {w} {calls} r c said) = low-snoc calls c (run-low r) (accepted-low w c said)
+run-low (takes r v e) = run-low r
+run-low (finds-none r e) = run-low r
 
 -- what was taken out, and what is inside, are the bits of the calls, in order
 pub writer-hands-out :

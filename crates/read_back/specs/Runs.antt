@@ -3,14 +3,14 @@
 use mathlib.Core.Bool.{Bool, true, false}
 use mathlib.Core.List.{List, [], _∷_, _++_, map}
 use mathlib.Core.Path.{_≡_}
-use Prim.Native.Nat.{ℕ, _*_, _≤_, _<_}
+use Prim.Native.Nat.{ℕ, _+_, _*_, _≤_, _<_}
 use lib.ListN.{length}
 use Rattle.queue.specs.Ring.{inside, bitRoom, charRoom}
 use Rattle.queue.specs.Take.{taken}
 use Rattle.refusal.specs.Answer.{accepted}
 use Rattle.varicode_reader.specs.Reader.{Reader, freshReader, bitSaid, bitLeaves, charLeaves}
-use Rattle.varicode_writer.specs.Writer.{Writer, freshWriter, putSaid, putLeaves, nextLeaves}
-use Rattle.varicode_writer.specs.Writer.{Call, opening, byte, closing, bitsPut}
+use Rattle.varicode_writer.specs.Writer.{Writer, freshWriter, highByte, putSaid, putLeaves, nextLeaves}
+use Rattle.varicode_writer.specs.Writer.{Call, opening, byte, closing, gap, bitsPut}
 
 -- the writer that the run ends in, the calls that put bits, and the bits that were taken out, each in order
 pub data WriterRun : Writer → List Call → List ℕ → Type 0 where
@@ -63,27 +63,40 @@ pub record Relayed (pauses : Bool) (calls : List Call) : Type 0 where
 abbrev pub received : {pauses : Bool} {calls : List Call} → Relayed pauses calls → List ℕ
 received r = r .got ++ inside charRoom (r .reader .chars)
 
--- Read-back: of one even opening, bytes below 128 and one closing, what is received is the text, letter for letter.
+-- Read-back: of one even opening, bytes and one closing, what is received is the text, letter for letter. An accepted
+-- byte is below 128, so that nothing need be asked of the text.
 abbrev pub ReadsBack : Type 0
-ReadsBack =
-    (text : List ℕ) (k n : ℕ) → Text text → (r : Relayed false (opening (2 * k) ∷ written text n)) → received r ≡ text
+ReadsBack = (text : List ℕ) (k n : ℕ) (r : Relayed false (opening (2 * k) ∷ written text n)) → received r ≡ text
 
 -- The reader for pauses takes an opening of any length.
 abbrev pub ReadsBackAnyOpening : Type 0
-ReadsBackAnyOpening =
-    (text : List ℕ) (k n : ℕ) → Text text → (r : Relayed true (opening k ∷ written text n)) → received r ≡ text
+ReadsBackAnyOpening = (text : List ℕ) (k n : ℕ) (r : Relayed true (opening k ∷ written text n)) → received r ≡ text
 
 -- With no opening at all, either reader.
 abbrev pub ReadsBackUnopened : Type 0
-ReadsBackUnopened =
-    (text : List ℕ) (n : ℕ) → Text text → (pauses : Bool) (r : Relayed pauses (written text n)) → received r ≡ text
+ReadsBackUnopened = (text : List ℕ) (n : ℕ) (pauses : Bool) (r : Relayed pauses (written text n)) → received r ≡ text
 
 -- ---- that calls can be relayed
 
--- a call whose bits all fit in an empty queue, whether or not a byte was written before it
-abbrev pub Fits : Call → Type 0
-Fits c = (first : Bool) → length (bitsPut first c) ≤ bitRoom
+-- A call that a writer with an empty queue accepts: it gives no byte of 128 or above, and its bits all fit, whether or
+-- not a byte was written before it.
+pub record Fits (c : Call) : Type 0 where
+  pub low : highByte c ≡ false
+  pub few : (first : Bool) → length (bitsPut first c) ≤ bitRoom
 
 abbrev pub AllFit : List Call → Type 0
 AllFit [] = Unit
 AllFit (c ∷ cs) = Fits c × AllFit cs
+
+-- What fits, and nothing else does: openings no longer than the queue, bytes below 128, closings that leave room for a
+-- gap.
+abbrev pub OpeningsFit : Type 0
+OpeningsFit = (n : ℕ) → (n ≤ bitRoom → Fits (opening n)) × (Fits (opening n) → n ≤ bitRoom)
+
+abbrev pub BytesFit : Type 0
+BytesFit = (b : ℕ) → (b < 128 → Fits (byte b)) × (Fits (byte b) → b < 128)
+
+abbrev pub ClosingsFit : Type 0
+ClosingsFit =
+    (n : ℕ) →
+    (length (gap false) + n ≤ bitRoom → Fits (closing n)) × (Fits (closing n) → length (gap false) + n ≤ bitRoom)

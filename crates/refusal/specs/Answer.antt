@@ -32,7 +32,7 @@ doneSaid put.Done = accepted tt
 doneSaid (put.Refused r) = refused (r .number) (r .place)
 
 -- Refusal `number` at place 0 exactly when the test holds. Tests stand in 01's order, lowest number first, one within
--- the other.
+-- the other; in the Varicode writer 11 comes before 9.
 abbrev pub refuseWhen : {A : Type 0} → Bool → ℕ → Said A → Said A
 refuseWhen true number rest = refused number 0
 refuseWhen false number rest = rest

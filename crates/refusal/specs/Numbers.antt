@@ -40,3 +40,7 @@ queueFull = 9
 -- the program's input is too short or too long, or not 4 + 4k bytes
 abbrev pub badInput : ℕ
 badInput = 10
+
+-- the Varicode writer is given a byte of 128 or above
+abbrev pub badByte : ℕ
+badByte = 11

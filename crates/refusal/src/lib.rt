@@ -41,6 +41,9 @@ pub const QUEUE_FULL: u8 = 9;
 // The program's input is too short or too long, or not 4 + 4k bytes.
 pub const BAD_INPUT: u8 = 10;
 
+// The Varicode writer is given a byte of 128 or above.
+pub const BAD_BYTE: u8 = 11;
+
 // A refusal: one of these numbers, and the index of the first bad value where it is BAD_READING or
 // BAD_COMPONENT, else 0.
 pub struct Refusal {

@@ -1,10 +1,11 @@
--- The calls that put bits: refused where the bits don't all fit, and otherwise with the bits behind the others. Assumes nothing.
+-- The calls that put bits: refused for a byte of 128 or above, then where the bits don't all fit, and otherwise with the bits behind the
+-- others. Assumes nothing.
 use mathlib.Core.Bool.{Bool, true, false}
 use mathlib.Core.List.{List, _++_}
 use mathlib.Core.Path.{_≡_, refl, sym, ap, _∙_}
-use Prim.Native.Nat.{ℕ, _+_, _≤_}
+use Prim.Native.Nat.{ℕ, _+_, _≤_, _<_}
 use native.Mathlib.Omega.{arith}
-use borrow.Author.Tests.{lt-ltb, le-ltb, leb-true, leb-false}
+use borrow.Author.Tests.{lt-ltb, le-ltb, le-leb, lt-leb, leb-true, leb-false}
 use lib.Dec.{leb, lit<}
 use lib.ListN.{length, replicate, length-append, length-replicate}
 use Rattle.binary.specs.Digits.{digits}
@@ -14,10 +15,13 @@ use Rattle.queue.specs.Inner.{Room}
 use Rattle.queue.specs.Records.{bits}
 use Rattle.queue.specs.Ring.{Ring, readAs, putAll, bitRoom}
 use Rattle.queue.proofs.Rings.{read-room, put-all-append, put-all-room}
+use Rattle.refusal.specs.Answer.{refused}
+use Rattle.refusal.specs.Numbers.{queueFull, badByte}
 use Rattle.varicode_words.specs.Word.{lengthOf, wordOf, bitsOf}
 use Rattle.varicode_writer.specs.declared.VaricodeEncoder.{VaricodeEncoder}
 use Rattle.varicode_writer.specs.declared.Wrote.{Wrote}
-use Rattle.varicode_writer.specs.Writer.{Call, opening, byte, closing, gap, bitsPut, firstAfter, tooMany, putSaid, putLeaves}
+use Rattle.varicode_writer.specs.Writer.{Call, opening, byte, closing, gap, bitsPut, firstAfter}
+use Rattle.varicode_writer.specs.Writer.{Writer, highByte, tooMany, putSaid, putLeaves}
 use Rattle.varicode_writer.specs.Records.{writer}
 use Rattle.varicode_writer.specs.Promise.{Puts}
 use Rattle.varicode_writer.specs.Inner.{Accepts, Refuses}
@@ -42,10 +46,52 @@ module _
       (put-all-room (replicate zeros 0)
       (record { head = read-within q p read .head; count = omega (arith, enough, length-replicate {A = ℕ} zeros 0) }))
 
--- a call that puts n bits behind as many zeros, of which the code has tested whether they fit
+-- ---- a byte of 128 or above, and what is none
+
+module _ (b : ℕ) where
+  pub byte-high : 128 ≤ b → highByte (byte b) ≡ true
+  unfolding highByte
+  byte-high = le-leb 128 b
+
+  pub low-byte-not-high : b < 128 → highByte (byte b) ≡ false
+  unfolding highByte
+  low-byte-not-high = lt-leb 128 b
+
+  pub not-high-byte-low : highByte (byte b) ≡ false → b < 128
+  unfolding highByte
+  not-high-byte-low = leb-false 128 b
+
+pub opening-not-high : (n : ℕ) → highByte (opening n) ≡ false
+unfolding highByte
+opening-not-high n = refl
+
+pub closing-not-high : (n : ℕ) → highByte (closing n) ≡ false
+unfolding highByte
+closing-not-high n = refl
+
+-- it is refused, whatever the writer
+module _ (w : Writer) (c : Call) (high : highByte c ≡ true) where
+  pub high-byte-refused : putSaid w c ≡ refused badByte 0
+  unfolding putSaid
+  high-byte-refused = rw high
+
+  pub high-byte-changes-nothing : putLeaves w c ≡ w
+  unfolding putLeaves
+  high-byte-changes-nothing = rw high
+
+pub puts-high-byte : (e : VaricodeEncoder) (c : Call) (r : Wrote) → highByte c ≡ true → Refuses badByte e r → Puts e c r
+puts-high-byte e c r high k =
+    record {
+      answer = k .answer ∙ sym (high-byte-refused (writer e) c high);
+      state = ap writer (k .state) ∙ sym (high-byte-changes-nothing (writer e) c high);
+    }
+
+-- ---- a call that puts n bits behind as many zeros, of which the code has tested whether they fit
+
 module _
     (e : VaricodeEncoder) (c : Call) (r : Wrote) (q : Ring) (zeros n : ℕ) (test : Bool) (read : q ≡ readAs bitRoom (writer e .pending))
-    (size : length (bitsPut (e .first) c) ≡ zeros + n) (tested : test ≡ leb (q .count + (zeros + n)) bitRoom) where
+    (not-high : highByte c ≡ false) (size : length (bitsPut (e .first) c) ≡ zeros + n)
+    (tested : test ≡ leb (q .count + (zeros + n)) bitRoom) where
   abbrev put : List ℕ
   put = bitsPut (e .first) c
 
@@ -55,11 +101,11 @@ module _
   same : leb (q .count + (zeros + n)) bitRoom ≡ leb (held + length put) bitRoom
   same = rw (read, size)
 
-  pub puts-refused : test ≡ false → Refuses e r → Puts e c r
+  pub puts-refused : test ≡ false → Refuses queueFull e r → Puts e c r
   unfolding putSaid putLeaves tooMany
   puts-refused f k =
       let full = lt-ltb bitRoom (held + length put) (leb-false _ _ (sym same ∙ sym tested ∙ f)) in
-      record { answer = k .answer ∙ rw full; state = ap writer (k .state) ∙ rw full }
+      record { answer = k .answer ∙ rw (not-high, full); state = ap writer (k .state) ∙ rw (not-high, full) }
 
   pub puts-done : test ≡ true → (new : BitQueue) → bits new ≡ putAll bitRoom q put → Accepts new (firstAfter (e .first) c) r → Puts e c r
   unfolding putSaid putLeaves tooMany
@@ -67,7 +113,7 @@ module _
       let enough = le-ltb bitRoom (held + length put) (leb-true _ _ (sym same ∙ sym tested ∙ f)) in
       let pending : bits (r .encoder .pending) ≡ putAll bitRoom (readAs bitRoom (writer e .pending)) put =
       ap bits (w .pending) ∙ behind ∙ ap (λ (p : Ring). putAll bitRoom p put) read in
-      record { answer = w .answer ∙ rw enough; state = rw (enough, pending, w .first) }
+      record { answer = w .answer ∙ rw (not-high, enough); state = rw (not-high, enough, pending, w .first) }
 
 -- ---- how many bits, and how they are put
 

@@ -2,12 +2,12 @@
 use mathlib.Core.Bool.{Bool, true, false, cond}
 use mathlib.Core.List.{List, [], _∷_, _++_}
 use Prim.Native.Nat.{ℕ, _+_}
-use lib.Dec.{ltb}
+use lib.Dec.{ltb, leb}
 use lib.ListN.{length, replicate}
 use Rattle.queue.specs.Ring.{Ring, empty, readAs, putAll, bitRoom}
 use Rattle.queue.specs.Take.{left}
 use Rattle.refusal.specs.Answer.{Said, accepted, refuseWhen}
-use Rattle.refusal.specs.Numbers.{queueFull}
+use Rattle.refusal.specs.Numbers.{queueFull, badByte}
 use Rattle.varicode_words.specs.Word.{wordOf, bitsOf}
 
 -- the calls that put bits
@@ -53,20 +53,26 @@ unfoldable pub tooMany : Writer → Call → Bool
 unfolding bitsPut
 tooMany w c = ltb bitRoom (readAs bitRoom (w .pending) .count + length (bitsPut (w .first) c))
 
--- refusal 9 exactly then
+-- a byte of 128 or above, which has no word of its own
+unfoldable pub highByte : Call → Bool
+highByte (opening n) = false
+highByte (byte b) = leb 128 b
+highByte (closing n) = false
+
+-- refusal 11 exactly when the call gives such a byte, and then 9 exactly when its bits don't all fit
 unfoldable pub putSaid : Writer → Call → Said Unit
-unfolding tooMany
-putSaid w c = refuseWhen (tooMany w c) queueFull (accepted tt)
+unfolding highByte tooMany
+putSaid w c = refuseWhen (highByte c) badByte (refuseWhen (tooMany w c) queueFull (accepted tt))
 
 -- the writer after a call: with the bits behind the others; as it came where the call is refused
 unfoldable pub putLeaves : Writer → Call → Writer
-unfolding tooMany bitsPut firstAfter
+unfolding highByte tooMany bitsPut firstAfter
 putLeaves w c =
-    cond (tooMany w c) w
+    cond (highByte c) w (cond (tooMany w c) w
     (record {
       pending = putAll bitRoom (readAs bitRoom (w .pending)) (bitsPut (w .first) c);
       first = firstAfter (w .first) c;
-    })
+    }))
 
 -- the writer after its next bit is taken out
 abbrev pub nextLeaves : Writer → Writer

@@ -61,12 +61,12 @@ fn done(pending: BitQueue, first: bool) -> Wrote
     }
 }
 
-// Refusal 9: the writer as it came.
-fn refused(encoder: VaricodeEncoder) -> Wrote
-    ensures { λ r. ⌜ Refuses encoder r ⌝ }
+// A refusal: the writer as it came.
+fn refused(encoder: VaricodeEncoder, number: u8) -> Wrote
+    ensures { λ r. ⌜ Refuses number encoder r ⌝ }
 {
     Wrote {
-        answer: refusal::not_done(refusal::QUEUE_FULL),
+        answer: refusal::not_done(number),
         encoder,
     }
 }
@@ -91,13 +91,17 @@ impl VaricodeEncoder {
             let zeros = q.put_run(0, n);
             return done(zeros, true);
         }
-        refused(self)
+        refused(self, refusal::QUEUE_FULL)
     }
 
-    // A byte's word, after a gap unless it is the first.
+    // A byte's word, after a gap unless it is the first. A byte of 128 or above has no word of its own, and is refused
+    // whether or not there is room.
     pub fn push_byte(self, b: u8) -> Wrote
         ensures { λ r. ⌜ Puts self (byte b) r ⌝ }
     {
+        if b >= 128 {
+            return refused(self, refusal::BAD_BYTE);
+        }
         let word = varicode_words::varicode_encode(b);
         let zeros = gap_len(self.first);
         let pending = self.pending;
@@ -107,7 +111,7 @@ impl VaricodeEncoder {
             let whole = spaced.put_word(word.bits, word.len);
             return done(whole, false);
         }
-        refused(self)
+        refused(self, refusal::QUEUE_FULL)
     }
 
     // A closing: n ones, after a gap if a byte was written.
@@ -122,7 +126,7 @@ impl VaricodeEncoder {
             let ones = spaced.put_run(1, n);
             return done(ones, self.first);
         }
-        refused(self)
+        refused(self, refusal::QUEUE_FULL)
     }
 
     // The next bit, taken out.

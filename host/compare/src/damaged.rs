@@ -32,7 +32,7 @@ fn lines(random: &mut Random) -> Vec<Line> {
         lookup_line(0),
         lookup_line(10),
         varicode::fresh_line(),
-        WriterLine::new().text(*b"hi").open(300).take(12).line(),
+        WriterLine::new().text(*b"hi").byte(0xe9).open(300).take(12).line(),
         ReaderLine::new().bits("11 00").put(2).take(2).line(),
         ReaderLine::for_pauses().bits("0 11 000").put(2).take(2).line(),
         soft_line(&[0.5; 9], 5, survivors(4) + 1),

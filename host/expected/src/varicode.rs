@@ -1,6 +1,7 @@
 //! Varicode: the words, the writer and the two readers. The oracle's queues grow without end; that a call's bits or
 //! character fit in the port's, and what is left of a record, is decided here, by 01's words. The reader for pauses,
-//! which the oracle does not have, is by request 2026-01.
+//! which the oracle does not have, is by request 2026-01; that the writer refuses bytes of 128 and above, which the
+//! oracle writes as byte 0, by request 2026-03.
 
 mod pauses;
 mod reader;
@@ -92,7 +93,11 @@ impl Writer {
         self.puts(0, &vec![0; n as usize])
     }
 
+    /// A byte. Of 128 or above it is refused before room is looked at, and the oracle, which would take it, is not called.
     pub fn byte(&mut self, byte: u8) -> u8 {
+        if byte >= 128 {
+            return 11;
+        }
         let word = spelled(byte);
         let gap = self.gap();
         if !self.fits(gap, word.len() as u64) {
@@ -167,6 +172,15 @@ mod tests {
         assert_eq!((writer.open(0), writer.close(0), writer.held()), (DONE, DONE, 256));
         assert_eq!((writer.take(), writer.byte(b' '), writer.close(0)), (Some(0), DONE, 9));
         assert_eq!(taken(&mut writer), format!("{}1", "0".repeat(255)));
+    }
+
+    #[test]
+    fn accented_letters_are_refused_with_or_without_room_and_leave_no_trace() {
+        let mut writer = Writer::new();
+        let said: Vec<u8> = "été".bytes().map(|byte| writer.byte(byte)).collect();
+        assert_eq!(said, [11, 11, DONE, 11, 11]);
+        assert_eq!(taken(&mut writer), "101");
+        assert_eq!((writer.open(256), writer.byte(127), writer.byte(128)), (DONE, 9, 11));
     }
 
     #[test]

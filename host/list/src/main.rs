@@ -1,6 +1,6 @@
 //! Writes the stored lists into a folder: the calls to its file `stdin`, and to `stdout` what is expected of each, line by
 //! line. Accepted answers are the oracle's; refusals, and what comes of forged records, are by document 01. What the
-//! reader for pauses answers is by request 2026-01.
+//! reader for pauses answers is by request 2026-01, and the refusal of bytes of 128 and above by request 2026-03.
 
 mod stored;
 
@@ -45,5 +45,6 @@ fn stored() -> Stored {
     stored::symbols::add(&mut list, random);
     stored::streaming::add(&mut list, random);
     stored::varicode::add_for_pauses(&mut list, random);
+    stored::varicode::add_high_bytes(&mut list, random);
     list
 }

@@ -11,6 +11,9 @@ use list::varicode::{ReaderLine, WriterLine};
 pub const TEXTS: usize = 10_000;
 pub const LONGEST: usize = 2000;
 
+/// So many texts of any bytes.
+pub const ANY_TEXTS: usize = 1000;
+
 /// So many texts go through the program at once.
 const AT_ONCE: usize = 500;
 
@@ -18,19 +21,37 @@ const AT_ONCE: usize = 500;
 const WRITER_FIELDS: usize = 4;
 pub const READER_FIELDS: usize = 7;
 
+/// What a byte of 128 or above answers.
+const HIGH_BYTE: usize = 11 << 32;
+
 /// A word and its gap have so many bits at most.
 const WORD: usize = 12;
 
 pub fn outcome(random: &mut Random) -> Outcome {
     for turn in 0..TEXTS / AT_ONCE {
         let texts: Vec<Vec<u8>> = (0..AT_ONCE).map(|at| text(turn * AT_ONCE + at, random)).collect();
-        let written = written(&texts, even_opening, random)?;
-        let lines = written
-            .iter()
-            .map(|bits| reader_line(ReaderLine::new(), bits.chunks(1), random));
-        come_out(&texts, lines.collect())?;
+        relayed(&texts, &texts, random)?;
     }
     Ok(TEXTS as u64)
+}
+
+/// Of any bytes those that are refused leave no trace: the others come out as if they had not been there.
+pub fn outcome_of_any_bytes(random: &mut Random) -> Outcome {
+    for _ in 0..ANY_TEXTS / AT_ONCE {
+        let texts: Vec<Vec<u8>> = (0..AT_ONCE).map(|_| any_text(random)).collect();
+        let low = |text: &Vec<u8>| text.iter().copied().filter(|byte| *byte < 128).collect();
+        relayed(&texts, &texts.iter().map(low).collect::<Vec<Vec<u8>>>(), random)?;
+    }
+    Ok(ANY_TEXTS as u64)
+}
+
+/// Texts through the writer, after an even opening, and through 01's reader: what is wanted of each must come out.
+fn relayed(texts: &[Vec<u8>], wanted: &[Vec<u8>], random: &mut Random) -> Result<(), String> {
+    let written = written(texts, even_opening, random)?;
+    let lines = written
+        .iter()
+        .map(|bits| reader_line(ReaderLine::new(), bits.chunks(1), random));
+    come_out(wanted, lines.collect())
 }
 
 /// The bits of each text, by the proved writer's answers, after the opening that is made for it.
@@ -68,6 +89,19 @@ pub fn text(at: usize, random: &mut Random) -> Vec<u8> {
 
 pub fn letters(len: usize, random: &mut Random) -> Vec<u8> {
     (0..len).map(|_| random.below(128) as u8).collect()
+}
+
+/// Any bytes, in some texts mostly below 128.
+fn any_text(random: &mut Random) -> Vec<u8> {
+    let len = random.below(LONGEST / 4);
+    let seldom = 1 + random.below(20);
+    let mut text = random.bytes(len);
+    for byte in &mut text {
+        if random.below(seldom) > 0 {
+            *byte %= 128;
+        }
+    }
+    text
 }
 
 fn even_opening(random: &mut Random) -> WriterLine {
@@ -116,7 +150,8 @@ pub fn answered_lines(lines: Vec<Line>) -> Result<Vec<(Line, String)>, String> {
     Ok(lines.into_iter().zip(got).collect())
 }
 
-/// What the steps of one letter took out, by the program's answer. No call was refused, and no queue was empty.
+/// What the steps of one letter took out, by the program's answer. No call was refused but for a byte of 128 or above,
+/// and no queue was empty.
 fn taken(call: &str, record: usize, answer: &str, letter: &str) -> Vec<u8> {
     let number = |digits| usize::from_str_radix(digits, 16).expect("a line is in hex");
     let mut answers = answer.split(' ').skip(1);
@@ -133,7 +168,8 @@ fn taken(call: &str, record: usize, answer: &str, letter: &str) -> Vec<u8> {
         if kind == letter {
             taken.extend(said.map(|byte| u8::try_from(byte).expect("something is taken out")));
         } else {
-            said.for_each(|answer| assert_eq!(answer, 0, "every call is accepted"));
+            let accepted = |answer| answer == 0 || kind == "b" && answer == HIGH_BYTE;
+            said.for_each(|answer| assert!(accepted(answer), "every call is accepted, but for a high byte"));
         }
     }
     taken

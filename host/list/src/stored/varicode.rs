@@ -41,11 +41,9 @@ pub fn add(list: &mut Stored, random: &mut Random) {
     forged(list, random);
 }
 
-/// The reader for pauses. It comes last on the list, so that what stands before it has kept its random inputs.
+/// The reader for pauses. It comes after what stood on the list before, which so has kept its random inputs.
 pub fn add_for_pauses(list: &mut Stored, random: &mut Random) {
-    list.comment(
-        "r: a reader for pauses, which the Rust does not have: from here on by the words of request 2026-01 alone.",
-    );
+    list.comment("r: a reader for pauses, which the Rust does not have: by the words of request 2026-01 alone.");
     list.comment("Its example and the like, each character taken out as it comes; then pauses of up to 257 zeros.");
     pauses(list);
     list.comment("The words that the old reader read above, whole ones and too long ones.");
@@ -56,6 +54,40 @@ pub fn add_for_pauses(list: &mut Stored, random: &mut Random) {
     list.comment("Forged records.");
     for _ in 0..FORGED / 2 {
         forged_reader(list, inputs::reader_for_pauses(random));
+    }
+}
+
+/// Bytes of 128 and above to the writer. They come after what stood on the list before, which so has kept its random
+/// inputs.
+pub fn add_high_bytes(list: &mut Stored, random: &mut Random) {
+    list.comment(
+        "w: bytes of 128 and above, which the Rust writes as byte 0: by the words of request 2026-03 alone. First a",
+    );
+    list.comment("fresh writer, then words with accented letters in UTF-8, whose bytes are refused one by one.");
+    list.add((128..=u8::MAX).fold(WriterLine::new(), WriterLine::byte).line());
+    for word in ["é", "café", "Čeští", "naïve Übung"] {
+        writer(list, WriterLine::new().text(word.bytes()).close(1));
+    }
+    list.comment("All 256 bytes to a full writer, with text in it or not: 11 comes before 9.");
+    for full in [WriterLine::new().open(256), WriterLine::new().open(255).byte(b' ')] {
+        list.add((0..=u8::MAX).fold(full, WriterLine::byte).line());
+    }
+    list.comment(
+        "One place too few for the word that the lookup gives: of the longest words, and of bytes that have none.",
+    );
+    for byte in [0, 127, 128, 0xc3, 0xe9, 255] {
+        list.add(inputs::one_place_too_few(byte, false).byte(byte).line());
+        list.add(inputs::one_place_too_few(byte, true).byte(byte).line());
+    }
+    list.comment("Forged records.");
+    for byte in [128, 0xc3, 255] {
+        list.add(WriterLine::forged(inputs::writer(random)).byte(byte).line());
+        list.add(
+            WriterLine::forged(inputs::full_writer(random))
+                .byte(127)
+                .byte(byte)
+                .line(),
+        );
     }
 }
 
@@ -120,7 +152,8 @@ fn full_of_bits(list: &mut Stored) {
 fn round_the_bits(list: &mut Stored, random: &mut Random) {
     let mut line = WriterLine::new();
     for turn in 0..4 {
-        line = line.open(turn).text(random.bytes(24)).close(5);
+        let text = random.bytes(24).into_iter().map(|byte| byte % 128);
+        line = line.open(turn).text(text).close(5);
         let some = line.held() - 3;
         line = line.take(some);
     }

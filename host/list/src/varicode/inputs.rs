@@ -1,5 +1,6 @@
-//! Forged records of writers and readers.
+//! Forged records of writers and readers, and writers with hardly any room.
 
+use super::WriterLine;
 use expected::Random;
 use expected::varicode::{BITS, CHARS, ReaderRecord, Ring, WriterRecord, word};
 
@@ -8,6 +9,24 @@ pub fn writer(random: &mut Random) -> WriterRecord {
     WriterRecord {
         bits: ring::<BITS>(random),
         first: random.below(2) == 0,
+    }
+}
+
+/// One that is read as full, whatever its head and count are.
+pub fn full_writer(random: &mut Random) -> WriterRecord {
+    let mut record = writer(random);
+    record.bits.count = BITS as u64 + (BITS as u64 + 1) * random.below(1000) as u64;
+    record
+}
+
+/// A writer with one place too few for a byte's word, and for the gap before it where there is text.
+pub fn one_place_too_few(byte: u8, text: bool) -> WriterLine {
+    let (_, len) = word(byte);
+    let held = BITS + 1 - usize::from(len);
+    if text {
+        WriterLine::new().open(held as u64 - 3).byte(b' ')
+    } else {
+        WriterLine::new().open(held as u64)
     }
 }
 

@@ -4,7 +4,8 @@ use Prim.Native.Nat.{ℕ, _+_}
 use native.Mathlib.Omega.{arith}
 use borrow.Author.Needs.{needs}
 use Rattle.varicode_writer.specs.Writer.{closing, firstAfter}
-use Rattle.varicode_writer.proofs.Puts.{read-within, gap-room, rest-room, puts-refused, puts-done, length-closing, closing-put}
+use Rattle.varicode_writer.proofs.Puts.{read-within, gap-room, rest-room, closing-not-high, puts-refused, puts-done}
+use Rattle.varicode_writer.proofs.Puts.{length-closing, closing-put}
 use Rattle.varicode_writer.proofs.VaricodeEncoder.push_postamble.Statement.{statement}
 use Rattle.varicode_writer.proofs.VaricodeEncoder.push_postamble.Tie as tie
 
@@ -40,7 +41,7 @@ returns c =
     let gap : tie.After-gap-len = search in
     let start : tie.Start = search in
     let args = start .args in
-    puts-done (args .self) (closing (args .n)) _ _ (gap .gap-len .result) (args .n) _ (queue .read .ensures)
+    puts-done (args .self) (closing (args .n)) _ _ (gap .gap-len .result) (args .n) _ (queue .read .ensures) (closing-not-high (args .n))
     (length-closing (args .self .first) (args .n) ∙ ap (λ (k : ℕ). k + args .n) (sym (gap .gap-len .ensures)))
     (tested .fits2 .ensures) (fit .if1 .taken) _
     (closing-put (args .self .first) (args .n) _ _ _ _ (gap .gap-len .ensures) (spaced .put-run .ensures) (ones .put-run2 .ensures))
@@ -54,7 +55,7 @@ returns-2 c =
     let gap : tie.After-gap-len = search in
     let start : tie.Start = search in
     let args = start .args in
-    puts-refused (args .self) (closing (args .n)) _ _ (gap .gap-len .result) (args .n) _ (queue .read .ensures)
+    puts-refused (args .self) (closing (args .n)) _ _ (gap .gap-len .result) (args .n) _ (queue .read .ensures) (closing-not-high (args .n))
     (length-closing (args .self .first) (args .n) ∙ ap (λ (k : ℕ). k + args .n) (sym (gap .gap-len .ensures)))
     (tested .fits2 .ensures) (over .if1 .left) (c .refused .ensures)
 

@@ -4,7 +4,7 @@ use native.Mathlib.Omega.{arith}
 use borrow.Author.Needs.{needs}
 use Rattle.queue.specs.Ring.{putAll}
 use Rattle.varicode_writer.specs.Writer.{opening, bitsPut, firstAfter}
-use Rattle.varicode_writer.proofs.Puts.{read-within, rest-room, puts-refused, puts-done, length-opening}
+use Rattle.varicode_writer.proofs.Puts.{read-within, rest-room, opening-not-high, puts-refused, puts-done, length-opening}
 use Rattle.varicode_writer.proofs.VaricodeEncoder.push_preamble.Statement.{statement}
 use Rattle.varicode_writer.proofs.VaricodeEncoder.push_preamble.Tie as tie
 
@@ -28,8 +28,8 @@ returns c =
     let queue : tie.After-read = search in
     let start : tie.Start = search in
     let args = start .args in
-    puts-done (args .self) (opening (args .n)) _ _ 0 (args .n) _ (queue .read .ensures) (length-opening (args .self .first) (args .n))
-    (tested .fits2 .ensures) (fit .if1 .taken) _ (zeros .put-run .ensures) (c .done .ensures)
+    puts-done (args .self) (opening (args .n)) _ _ 0 (args .n) _ (queue .read .ensures) (opening-not-high (args .n))
+    (length-opening (args .self .first) (args .n)) (tested .fits2 .ensures) (fit .if1 .taken) _ (zeros .put-run .ensures) (c .done .ensures)
 
 returns-2 : tie.Need-returns-2
 returns-2 c =
@@ -38,8 +38,8 @@ returns-2 c =
     let queue : tie.After-read = search in
     let start : tie.Start = search in
     let args = start .args in
-    puts-refused (args .self) (opening (args .n)) _ _ 0 (args .n) _ (queue .read .ensures) (length-opening (args .self .first) (args .n))
-    (tested .fits2 .ensures) (over .if1 .left) (c .refused .ensures)
+    puts-refused (args .self) (opening (args .n)) _ _ 0 (args .n) _ (queue .read .ensures) (opening-not-high (args .n))
+    (length-opening (args .self .first) (args .n)) (tested .fits2 .ensures) (over .if1 .left) (c .refused .ensures)
 
 pub push-preamble-spec : {M : Type 1} → statement M
 push-preamble-spec =
