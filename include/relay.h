@@ -2,7 +2,10 @@
  * with target/native/libdoors.a, which `tools/native staticlib doors` makes. examples/c/decode.c shows a use.
  *
  * Numbers and bytes:
- *   code     0 or 1: K = 5 or K = 7
+ *   code     0: K = 5
+ *            1: K = 7, tap words 171 and 133 (octal), with the same keep patterns as 0
+ *            2: the same tap words with the keep patterns of ETSI EN 300 744, for DVB-T. At rate 1/2 that is the same
+ *               as 1; at the other rates a receiver for the one does not read what the other sends.
  *   rate     0 to 4: 1/2, 2/3, 3/4, 5/6, 7/8
  *   a bit    a byte. Of one that is read only the lowest bit counts; one that is written is 0 or 1.
  *   lengths  each stands behind its pointer and counts bytes.
@@ -15,7 +18,7 @@
  *
  * That these two tell every answer of every door is proved (doorRead, docs/ENTRIES.md).
  *
- *   1   the code is not 0 or 1
+ *   1   the code is above 2
  *   2   the rate is above 4
  *   3   there are more than 4096 info bits
  *   4   out is shorter than needed
@@ -57,9 +60,9 @@ uint64_t relay_coded_len(uint8_t code, uint8_t rate, size_t info);
  * of the coded bits. Those missing at the end count as 0.0; those beyond the coded length, and a last piece under four
  * bytes, are neither used nor examined. The pointer needs no alignment.
  *
- * out needs info bytes, and gets the word. scratch needs (info + K-1) * 2^(K-1) bytes, that is (info + 4) * 16 or
- * (info + 6) * 64, and gets the survivors. Answers the bits of a float, the score: the readings where the word's coded
- * bits are 0, less those where they are 1. Refusals 1 to 6. */
+ * out needs info bytes, and gets the word. scratch needs (info + K-1) * 2^(K-1) bytes, that is (info + 4) * 16 for code
+ * 0 and (info + 6) * 64 for 1 and 2, and gets the survivors. Answers the bits of a float, the score: the readings where
+ * the word's coded bits are 0, less those where they are 1. Refusals 1 to 6. */
 uint64_t relay_decode(uint8_t code, uint8_t rate, size_t info, const uint8_t *readings, size_t readings_len,
                       uint8_t *out, size_t out_len, uint8_t *scratch, size_t scratch_len);
 

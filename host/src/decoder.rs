@@ -29,7 +29,7 @@ pub struct Word {
 pub fn scratch_len(code: Code, info: usize) -> usize {
     let tail = match code {
         Code::K5 => 4,
-        Code::DvbK7 => 6,
+        Code::DvbK7 | Code::En300744 => 6,
     };
     info.saturating_add(tail).saturating_mul(1 << tail)
 }

@@ -8,14 +8,17 @@ use crate::refusal::{Refusal, count};
 /// The most info bits that one call may bring; more give refusal 3.
 pub const INFO_LIMIT: usize = 4096;
 
-/// The two convolutional codes, by 01's numbers.
+/// The convolutional codes, each with its keep patterns, by 01's numbers.
 #[derive(Debug, Clone, Copy, PartialEq, Eq)]
 #[repr(u8)]
 pub enum Code {
     /// Tap words 10101 and 10011.
     K5 = 0,
-    /// Tap words 1111001 and 1011011, those of ETSI EN 300 744.
+    /// Tap words 1111001 and 1011011, those of ETSI EN 300 744, with the keep patterns of K5, which are the Rust's: only
+    /// at rate 1/2 is it what the standard has.
     DvbK7 = 1,
+    /// The same tap words with the keep patterns of EN 300 744, for where the other end follows the standard.
+    En300744 = 2,
 }
 
 /// The five rates, by 01's numbers.
@@ -48,6 +51,10 @@ pub fn coded_len(code: Code, rate: Rate, info: usize) -> Result<usize, Refusal> 
 ///
 /// let coded = encode(Code::K5, Rate::R1_2, &[1]).unwrap();
 /// assert_eq!(coded, [1, 1, 0, 0, 1, 0, 0, 1, 1, 1]);
+///
+/// // The two K7 codes differ in what they keep.
+/// assert_eq!(encode(Code::DvbK7, Rate::R2_3, &[1]).unwrap(), [1, 1, 1, 1, 1, 1, 0, 0, 0, 1, 1]);
+/// assert_eq!(encode(Code::En300744, Rate::R2_3, &[1]).unwrap(), [1, 1, 0, 1, 1, 1, 0, 0, 1, 1, 1]);
 /// ```
 pub fn encode(code: Code, rate: Rate, info: &[u8]) -> Result<Vec<u8>, Refusal> {
     let mut out = vec![0; coded_len(code, rate, info.len())?];

@@ -57,7 +57,7 @@ fn info_4096_is_accepted() {
 fn info_4097_gives_3() {
     let refused = Refusal { number: 3, place: 0 };
     let info = [1; INFO_LIMIT + 1];
-    for code in [Code::K5, Code::DvbK7] {
+    for code in [Code::K5, Code::DvbK7, Code::En300744] {
         for rate in RATES {
             assert_eq!(coded_len(code, rate, info.len()), Err(refused));
             assert_eq!(encode(code, rate, &info), Err(refused));

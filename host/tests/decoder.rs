@@ -3,7 +3,7 @@
 use relay_coder::{Code, INFO_LIMIT, Rate, Refusal, Word, coded_len, decode, decode_into, encode, scratch_len};
 
 const RATES: [Rate; 5] = [Rate::R1_2, Rate::R2_3, Rate::R3_4, Rate::R5_6, Rate::R7_8];
-const CODES: [Code; 2] = [Code::K5, Code::DvbK7];
+const CODES: [Code; 3] = [Code::K5, Code::DvbK7, Code::En300744];
 
 fn word(bits: &[u8], score: f32) -> Result<Word, Refusal> {
     Ok(Word {

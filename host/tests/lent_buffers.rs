@@ -38,7 +38,7 @@ fn an_empty_call_of_the_plain_encoder_writes_nothing() {
 #[test]
 fn unknown_codes_and_rates_give_1_and_2() {
     let mut out = [CANARY; 32];
-    for (code, rate, number) in [(2, 0, 1), (255, 4, 1), (0, 5, 2), (1, 255, 2)] {
+    for (code, rate, number) in [(3, 0, 1), (255, 4, 1), (0, 5, 2), (1, 255, 2), (2, 5, 2)] {
         assert_eq!(doors::encode(code, rate, &[1], &mut out), number * REFUSED);
         assert_eq!(doors::coded_len(code, rate, 1), number * REFUSED);
     }
@@ -48,12 +48,12 @@ fn unknown_codes_and_rates_give_1_and_2() {
 #[test]
 fn the_lowest_number_comes_first() {
     let long = [0; 4097];
-    assert_eq!(doors::encode(2, 5, &long, &mut []), REFUSED);
+    assert_eq!(doors::encode(3, 5, &long, &mut []), REFUSED);
     assert_eq!(doors::encode(1, 5, &long, &mut []), 2 * REFUSED);
     assert_eq!(doors::encode(1, 4, &long, &mut []), 3 * REFUSED);
     assert_eq!(doors::encode(1, 4, &long[..4096], &mut []), 4 * REFUSED);
     assert_eq!(doors::conv_encode(&long, &mut []), 3 * REFUSED);
-    assert_eq!(doors::coded_len(2, 5, usize::MAX), REFUSED);
+    assert_eq!(doors::coded_len(3, 5, usize::MAX), REFUSED);
     assert_eq!(doors::coded_len(0, 5, usize::MAX), 2 * REFUSED);
     assert_eq!(doors::coded_len(0, 0, usize::MAX), 3 * REFUSED);
 }

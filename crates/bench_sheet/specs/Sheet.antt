@@ -12,6 +12,7 @@ use Rattle.forward.specs.Decode.{word, score}
 use Rattle.trellis.specs.Choice.{codeOf, patternOf}
 use Rattle.trellis.specs.Codeword.{stepsOf, codeword}
 use Rattle.trellis.specs.Keep.{codedLength}
+use Rattle.trellis.specs.Standard.{standardCode}
 use Rattle.varicode_reader.specs.Reader.{nothingHeard, lettersFrom}
 use Rattle.varicode_writer.specs.Writer.{byte, streamFrom}
 
@@ -90,4 +91,10 @@ sheet =
     ∷ reads (0 ∷ 0 ∷ 1 ∷ 1 ∷ 0 ∷ 0 ∷ []) (e ∷ [])
     ∷ reads (0 ∷ 1 ∷ 0 ∷ 1 ∷ 0 ∷ 1 ∷ 0 ∷ 1 ∷ 0 ∷ 1 ∷ 1 ∷ 0 ∷ 0 ∷ []) (0 ∷ [])
     ∷ readsPauses (0 ∷ 1 ∷ 1 ∷ 0 ∷ 0 ∷ []) (e ∷ [])
+    ∷ coded standardCode 0 (1 ∷ []) (1 ∷ 1 ∷ 1 ∷ 0 ∷ 1 ∷ 1 ∷ 1 ∷ 1 ∷ 0 ∷ 0 ∷ 0 ∷ 1 ∷ 1 ∷ 1 ∷ [])
+    ∷ coded standardCode 1 (1 ∷ []) (1 ∷ 1 ∷ 0 ∷ 1 ∷ 1 ∷ 1 ∷ 0 ∷ 0 ∷ 1 ∷ 1 ∷ 1 ∷ [])
+    ∷ coded standardCode 2 (1 ∷ []) (1 ∷ 1 ∷ 0 ∷ 1 ∷ 1 ∷ 1 ∷ 0 ∷ 0 ∷ 1 ∷ 1 ∷ [])
+    ∷ coded standardCode 3 (1 ∷ []) (1 ∷ 1 ∷ 0 ∷ 1 ∷ 1 ∷ 0 ∷ 0 ∷ 1 ∷ 1 ∷ [])
+    ∷ coded standardCode 4 (1 ∷ []) (1 ∷ 1 ∷ 0 ∷ 1 ∷ 1 ∷ 0 ∷ 1 ∷ 1 ∷ [])
+    ∷ lengths standardCode 10 (32 ∷ 24 ∷ 22 ∷ 20 ∷ 19 ∷ [])
     ∷ []

@@ -18,9 +18,10 @@ use Rattle.correlation.specs.Whole.{whole}
 use Rattle.f32s.specs.Whole.{floatOf}
 use Rattle.forward.specs.Decode.{word, score}
 use Rattle.trellis.specs.declared.ConvCode.{ConvCode}
-use Rattle.trellis.specs.Choice.{codeOf, patternOf}
+use Rattle.trellis.specs.Choice.{k7, standard, patternIn, codeOf, patternOf}
 use Rattle.trellis.specs.Codeword.{stepsOf, codeword}
 use Rattle.trellis.specs.Keep.{Keep, Pattern, codedLength}
+use Rattle.trellis.specs.Standard.{standardCode}
 use Rattle.trellis.proofs.Chosen.{code-narrow, rate-pattern}
 use Rattle.trellis.proofs.Sent.{length-codeword, tailed-bits}
 use Rattle.best_word.specs.Claim.{InfoWord, Exact, Towards, scoreOf, statesOf, Claim}
@@ -125,3 +126,11 @@ pub decoded-word-wins :
     Claim (codeOf code) (patternOf code rate) info zs
     (word (codeOf code) (patternOf code rate) readings info) (score (codeOf code) (patternOf code rate) readings info)
 decoded-word-wins code rate = best-word-wins (codeOf code) (code-narrow code .some) (patternOf code rate) (rate-pattern code rate)
+
+-- among them K7 with the keep patterns of EN 300 744
+pub standard-word-wins :
+    (rate info : ℕ) (readings : List Float) (zs : List ℤ) → Exact k7 (patternIn standard rate) info readings zs →
+    Claim k7 (patternIn standard rate) info zs
+    (word k7 (patternIn standard rate) readings info) (score k7 (patternIn standard rate) readings info)
+unfolding codeOf patternOf
+standard-word-wins = decoded-word-wins standardCode

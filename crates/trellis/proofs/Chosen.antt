@@ -15,7 +15,7 @@ use Rattle.trellis.specs.declared.ConvCode.{ConvCode}
 use Rattle.trellis.specs.declared.KeepPattern.{KeepPattern}
 use Rattle.trellis.specs.declared.Selected.{Selected}
 use Rattle.trellis.specs.Keep.{Keep, Pattern, period, onesOf, codedLength}
-use Rattle.trellis.specs.Choice.{k5, k7, half, usual, Coding, codings, codes, codingOf, codeOf, patternIn, patternOf, ratesOf}
+use Rattle.trellis.specs.Choice.{k5, k7, half, rust, Coding, codings, codes, codingOf, codeOf, patternIn, patternOf, ratesOf}
 use Rattle.trellis.specs.Choice.{heldOf, keepOf}
 use Rattle.trellis.specs.Inner.{Narrow, Ends, Rows, Chooses}
 use Rattle.trellis.proofs.Columns.{rows-pattern}
@@ -66,7 +66,7 @@ held p = ltb 0 (period p) && (leb (period p) 7 && eqb (length (p .row1)) (period
 
 -- an entry of the table: such a code, with as many keep patterns as any other, all of them such
 abbrev sound : Coding → Bool
-sound coding = fits (coding .code) && (every held (coding .patterns) && eqb (length (coding .patterns)) (length usual))
+sound coding = fits (coding .code) && (every held (coding .patterns) && eqb (length (coding .patterns)) (length rust))
 
 record Sound (coding : Coding) : Type 0 where
   pub some : 0 < coding .code .width
@@ -74,7 +74,7 @@ record Sound (coding : Coding) : Type 0 where
   pub upper : Reached (coding .code) (coding .code .g0)
   pub lower : Reached (coding .code) (coding .code .g1)
   pub patterns-held : every held (coding .patterns) ≡ true
-  pub rates : length (coding .patterns) ≡ length usual
+  pub rates : length (coding .patterns) ≡ length rust
 
 sound-entry : (coding : Coding) → sound coding ≡ true → Sound coding
 sound-entry coding e =
@@ -130,7 +130,7 @@ code-ends code =
     }
 
 -- every code has as many rates as any other
-pub rates-same : (code : ℕ) → ratesOf code ≡ length usual
+pub rates-same : (code : ℕ) → ratesOf code ≡ length rust
 unfolding ratesOf
 rates-same code = coding-sound code .rates
 
@@ -176,9 +176,13 @@ rate-pattern code rate =
 
 -- ---- what the arms select
 
-pub pattern-beyond : (patterns : List Keep) (rate : ℕ) → length patterns ≤ rate → half ≡ patternIn patterns rate
+-- a rate number's arm has the keep pattern of the number, and the last arm that of 1/2
+pub rate-held : (patterns : List Keep) {rate k : ℕ} → rate ≡ k → heldOf (patternIn patterns k) ≡ heldOf (patternIn patterns rate)
+rate-held patterns e = sym (ap (λ (n : ℕ). heldOf (patternIn patterns n)) e)
+
+pub no-rate-held : (patterns : List Keep) (rate : ℕ) → length patterns ≤ rate → heldOf half ≡ heldOf (patternIn patterns rate)
 unfolding patternIn
-pattern-beyond patterns rate h = sym (List·getD-eq-default patterns half h)
+no-rate-held patterns rate h = sym (ap heldOf (List·getD-eq-default patterns half h))
 
 -- an arm's code and keep pattern are the entry's
 abbrev selected : ConvCode → KeepPattern → Selected
@@ -191,7 +195,7 @@ unfolding codeOf patternOf
 entry-chosen code rate e f =
     record { taps = ap (λ (c : Coding). c .code) e; rows = f ∙ ap (λ (c : Coding). heldOf (patternIn (c .patterns) rate)) e }
 
-pub coding-beyond : (code : ℕ) → codes ≤ code → record { code = k5; patterns = usual } ≡ codingOf code
+pub coding-beyond : (code : ℕ) → codes ≤ code → record { code = k5; patterns = rust } ≡ codingOf code
 unfolding codingOf
 coding-beyond code h = sym (List·getD-eq-default codings _ h)
 

@@ -11,7 +11,7 @@ use Rattle.trellis.specs.Keep.{Keep, period}
 abbrev pub k5 : ConvCode
 k5 = record { width = 4; g0 = 0b10101; g1 = 0b10011 }
 
--- octal 171 and 133 (ETSI EN 300 744, 4.3.3)
+-- octal 171 and 133, X and Y of ETSI EN 300 744, 4.3.3
 abbrev pub k7 : ConvCode
 k7 = record { width = 6; g0 = 0b1111001; g1 = 0b1011011 }
 
@@ -19,13 +19,23 @@ abbrev pub half : Keep
 half = record { row0 = 1 ∷ []; row1 = 1 ∷ [] }
 
 -- the keep patterns of the Rust, by the numbers of their rates: 1/2, 2/3, 3/4, 5/6, 7/8
-abbrev pub usual : List Keep
-usual =
+abbrev pub rust : List Keep
+rust =
     half
     ∷ record { row0 = 1 ∷ 1 ∷ []; row1 = 1 ∷ 0 ∷ [] }
     ∷ record { row0 = 1 ∷ 1 ∷ 0 ∷ []; row1 = 1 ∷ 0 ∷ 1 ∷ [] }
     ∷ record { row0 = 1 ∷ 1 ∷ 0 ∷ 1 ∷ 0 ∷ []; row1 = 1 ∷ 0 ∷ 1 ∷ 0 ∷ 1 ∷ [] }
     ∷ record { row0 = 1 ∷ 1 ∷ 1 ∷ 1 ∷ 0 ∷ 1 ∷ 0 ∷ []; row1 = 1 ∷ 0 ∷ 0 ∷ 0 ∷ 1 ∷ 0 ∷ 1 ∷ [] }
+    ∷ []
+
+-- those of EN 300 744, by the same numbers, as its table has them: the row of X is G0's, that of Y is G1's
+abbrev pub standard : List Keep
+standard =
+    half
+    ∷ record { row0 = 1 ∷ 0 ∷ []; row1 = 1 ∷ 1 ∷ [] }
+    ∷ record { row0 = 1 ∷ 0 ∷ 1 ∷ []; row1 = 1 ∷ 1 ∷ 0 ∷ [] }
+    ∷ record { row0 = 1 ∷ 0 ∷ 1 ∷ 0 ∷ 1 ∷ []; row1 = 1 ∷ 1 ∷ 0 ∷ 1 ∷ 0 ∷ [] }
+    ∷ record { row0 = 1 ∷ 0 ∷ 0 ∷ 0 ∷ 1 ∷ 0 ∷ 1 ∷ []; row1 = 1 ∷ 1 ∷ 1 ∷ 1 ∷ 0 ∷ 1 ∷ 0 ∷ [] }
     ∷ []
 
 -- what a code number selects: a code, and for each rate number a keep pattern
@@ -36,13 +46,14 @@ pub record Coding : Type 0 where
 -- the table
 abbrev pub codings : List Coding
 codings =
-    record { code = k5; patterns = usual }
-    ∷ record { code = k7; patterns = usual }
+    record { code = k5; patterns = rust }
+    ∷ record { code = k7; patterns = rust }
+    ∷ record { code = k7; patterns = standard }
     ∷ []
 
 -- its entry of a code number, K5's where the number is no code's
 unfoldable pub codingOf : ℕ → Coding
-codingOf code = getD codings code (record { code = k5; patterns = usual })
+codingOf code = getD codings code (record { code = k5; patterns = rust })
 
 unfoldable pub codeOf : ℕ → ConvCode
 unfolding codingOf

@@ -16,7 +16,7 @@ pub struct ConvCode {
 }
 
 // How many codes and rates there are. Their numbers count from 0.
-pub const CODES: u8 = 2;
+pub const CODES: u8 = 3;
 
 pub const RATES: u8 = 5;
 
@@ -46,47 +46,88 @@ pub struct KeepPattern {
     pub row1: [u8; 7],
 }
 
-const KEEP_1_2: KeepPattern = KeepPattern {
+// Rate 1/2, where both are kept.
+const HALF: KeepPattern = KeepPattern {
     period: 1,
     row0: [1, 0, 0, 0, 0, 0, 0],
     row1: [1, 0, 0, 0, 0, 0, 0],
 };
 
-const KEEP_2_3: KeepPattern = KeepPattern {
+// The Rust's rows.
+const RUST_2_3: KeepPattern = KeepPattern {
     period: 2,
     row0: [1, 1, 0, 0, 0, 0, 0],
     row1: [1, 0, 0, 0, 0, 0, 0],
 };
 
-const KEEP_3_4: KeepPattern = KeepPattern {
+const RUST_3_4: KeepPattern = KeepPattern {
     period: 3,
     row0: [1, 1, 0, 0, 0, 0, 0],
     row1: [1, 0, 1, 0, 0, 0, 0],
 };
 
-const KEEP_5_6: KeepPattern = KeepPattern {
+const RUST_5_6: KeepPattern = KeepPattern {
     period: 5,
     row0: [1, 1, 0, 1, 0, 0, 0],
     row1: [1, 0, 1, 0, 1, 0, 0],
 };
 
-const KEEP_7_8: KeepPattern = KeepPattern {
+const RUST_7_8: KeepPattern = KeepPattern {
     period: 7,
     row0: [1, 1, 1, 1, 0, 1, 0],
     row1: [1, 0, 0, 0, 1, 0, 1],
 };
 
+// The rows of EN 300 744: X's, and Y's.
+const STANDARD_2_3: KeepPattern = KeepPattern {
+    period: 2,
+    row0: [1, 0, 0, 0, 0, 0, 0],
+    row1: [1, 1, 0, 0, 0, 0, 0],
+};
+
+const STANDARD_3_4: KeepPattern = KeepPattern {
+    period: 3,
+    row0: [1, 0, 1, 0, 0, 0, 0],
+    row1: [1, 1, 0, 0, 0, 0, 0],
+};
+
+const STANDARD_5_6: KeepPattern = KeepPattern {
+    period: 5,
+    row0: [1, 0, 1, 0, 1, 0, 0],
+    row1: [1, 1, 0, 1, 0, 0, 0],
+};
+
+const STANDARD_7_8: KeepPattern = KeepPattern {
+    period: 7,
+    row0: [1, 0, 0, 0, 1, 0, 1],
+    row1: [1, 1, 1, 1, 0, 1, 0],
+};
+
 // The keep patterns of the Rust, that of 1/2 where the number is no rate's.
-fn usual(rate: u8) -> KeepPattern
-    ensures { λ r. ⌜ r ≡ heldOf (patternIn choice.usual rate) ⌝ }
+fn rust(rate: u8) -> KeepPattern
+    ensures { λ r. ⌜ r ≡ heldOf (patternIn choice.rust rate) ⌝ }
 {
     match rate {
-        0 => KEEP_1_2,
-        1 => KEEP_2_3,
-        2 => KEEP_3_4,
-        3 => KEEP_5_6,
-        4 => KEEP_7_8,
-        _ => KEEP_1_2,
+        0 => HALF,
+        1 => RUST_2_3,
+        2 => RUST_3_4,
+        3 => RUST_5_6,
+        4 => RUST_7_8,
+        _ => HALF,
+    }
+}
+
+// The keep patterns of EN 300 744, likewise.
+fn standard(rate: u8) -> KeepPattern
+    ensures { λ r. ⌜ r ≡ heldOf (patternIn choice.standard rate) ⌝ }
+{
+    match rate {
+        0 => HALF,
+        1 => STANDARD_2_3,
+        2 => STANDARD_3_4,
+        3 => STANDARD_5_6,
+        4 => STANDARD_7_8,
+        _ => HALF,
     }
 }
 
@@ -103,15 +144,19 @@ pub fn choose(code: u8, rate: u8) -> Selected
     match code {
         0 => Selected {
             code: K5,
-            keep: usual(rate),
+            keep: rust(rate),
         },
         1 => Selected {
             code: K7,
-            keep: usual(rate),
+            keep: rust(rate),
+        },
+        2 => Selected {
+            code: K7,
+            keep: standard(rate),
         },
         _ => Selected {
             code: K5,
-            keep: usual(rate),
+            keep: rust(rate),
         },
     }
 }

@@ -50,7 +50,7 @@ pub fn run() {
 }
 
 /// A coded bit as it is received through noise: a tenth of them on the wrong side.
-fn noisy(bit: u8, random: &mut Random) -> f32 {
+pub fn noisy(bit: u8, random: &mut Random) -> f32 {
     let sent = 1.0 - 2.0 * f32::from(bit);
     let noise = random.below(2001) as f32 / 800.0 - 1.25;
     sent + noise

@@ -5,6 +5,7 @@ mod clock;
 mod decoder;
 mod encoder;
 mod lookup;
+mod standard;
 mod streaming;
 mod symbols;
 
@@ -15,6 +16,7 @@ fn main() {
     );
     encoder::run();
     decoder::run();
+    standard::run();
     symbols::run();
     streaming::run();
     lookup::run();

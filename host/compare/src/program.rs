@@ -62,7 +62,7 @@ fn sized(len: usize, random: &mut Random) -> Vec<u8> {
 
 fn heads(random: &mut Random) -> Vec<Vec<u8>> {
     let mut inputs = Vec::new();
-    for code in [0, 1, 2, 255] {
+    for code in [0, 1, 2, 3, 255] {
         for rate in [0, 1, 2, 3, 4, 5, 255] {
             for info in INFO {
                 let [low, high] = info.to_le_bytes();
@@ -79,7 +79,7 @@ fn heads(random: &mut Random) -> Vec<Vec<u8>> {
 
 fn any(random: &mut Random) -> Vec<u8> {
     let [low, high] = (random.below(1010) as u16).to_le_bytes();
-    let mut input = vec![random.below(2) as u8, random.below(5) as u8, low, high];
+    let mut input = vec![random.below(3) as u8, random.below(5) as u8, low, high];
     let kind = random.below(4);
     for _ in 0..random.below(2048) {
         let reading = match kind {

@@ -1,9 +1,10 @@
 //! The block decoder of readings. The word is the oracle's; the survivors and the score, which the oracle keeps to
-//! itself, are those of its arithmetic run again here, by 01's rules and from none of the proved code.
+//! itself, are those of its arithmetic run again here, by 01's rules and from none of the proved code. For code number 2
+//! the standard says where each reading belongs, and the oracle decodes at rate 1/2.
 
-use crate::encoder::selected;
-use crate::{INFO_LIMIT, refused};
-use oracle::fec::conv::{punctured_coded_len_with, viterbi_decode_soft_with};
+use crate::encoder::{Selected, selected};
+use crate::{INFO_LIMIT, refused, standard};
+use oracle::fec::conv::viterbi_decode_soft_with;
 
 /// The door's answer, and the whole of both lent buffers after the call.
 #[derive(Debug, Clone, PartialEq, Eq)]
@@ -33,22 +34,31 @@ pub fn decode(code: u8, rate: u8, info: usize, bytes: &[u8], out: &[u8], scratch
 
 /// What is decoded, or the answer that refuses.
 fn accepted(code: u8, rate: u8, info: usize, bytes: &[u8], room: usize, scratch: usize) -> Result<Run, u64> {
-    let (oracle_code, oracle_rate) = selected(code, rate, info).map_err(refused)?;
+    let selected = selected(code, rate, info).map_err(refused)?;
     debug_assert!(info <= INFO_LIMIT);
     if room < info {
         return Err(refused(4));
     }
-    let trellis = &TRELLISES[usize::from(code)];
-    if scratch < trellis.steps(info) << trellis.width {
+    if scratch < survivors(code, info) {
         return Err(refused(5));
     }
     let readings: Vec<f32> = readings_of(bytes);
-    let coded = punctured_coded_len_with(oracle_code, info, oracle_rate);
+    let coded = selected.coded_len(info);
     if let Some(place) = readings.iter().take(coded).position(|reading| !reading.is_finite()) {
         return Err(refused(6) + place as u64);
     }
-    let run = trellis.run(&PATTERNS[usize::from(rate)], &readings, info);
-    let word = viterbi_decode_soft_with(oracle_code, &readings, info, oracle_rate);
+    let (pairs, word) = match selected {
+        Selected::Oracle(oracle_code, oracle_rate) => (
+            received(&PATTERNS[usize::from(rate)], &readings, info + width(code)),
+            viterbi_decode_soft_with(oracle_code, &readings, info, oracle_rate),
+        ),
+        Selected::Standard(rate) => {
+            let pairs = standard::received(rate, &readings, info);
+            let word = standard::decode(&pairs, info);
+            (pairs, word)
+        }
+    };
+    let run = TRELLISES[usize::from(code)].run(&pairs, info);
     assert_eq!(run.word, word, "the arithmetic run again is not the oracle's");
     Ok(run)
 }
@@ -66,19 +76,30 @@ struct Trellis {
     taps: [u32; 2],
 }
 
-/// K5 and K7.
-const TRELLISES: [Trellis; 2] = [
-    Trellis {
-        width: 4,
-        taps: [0b10101, 0b10011],
-    },
-    Trellis {
-        width: 6,
-        taps: [0o171, 0o133],
-    },
-];
+const K5: Trellis = Trellis {
+    width: 4,
+    taps: [0b10101, 0b10011],
+};
 
-/// The rows of the keep patterns, G0's and G1's, by the numbers of their rates.
+const K7: Trellis = Trellis {
+    width: 6,
+    taps: [0o171, 0o133],
+};
+
+/// By the numbers of the codes.
+const TRELLISES: [Trellis; 3] = [K5, K7, K7];
+
+/// The width K - 1 of a code's register; K5's where the number is no code's.
+pub fn width(code: u8) -> usize {
+    TRELLISES.get(usize::from(code)).unwrap_or(&K5).width
+}
+
+/// How many survivor bytes a decoding leaves, by 01: steps times states.
+pub fn survivors(code: u8, info: usize) -> usize {
+    (info + width(code)) << width(code)
+}
+
+/// The rows of the oracle's keep patterns, G0's and G1's, by the numbers of their rates.
 const PATTERNS: [[&str; 2]; 5] = [
     ["1", "1"],
     ["11", "10"],
@@ -87,6 +108,16 @@ const PATTERNS: [[&str; 2]; 5] = [
     ["1111010", "1000101"],
 ];
 
+/// The readings put back to where they were sent, G0's and G1's of each step; 0.0 where none is.
+fn received(pattern: &[&str; 2], readings: &[f32], steps: usize) -> Vec<[f32; 2]> {
+    let mut readings = readings.iter();
+    let mut place = |row: &str, step: usize| match row.as_bytes()[step % row.len()] {
+        b'1' => readings.next().copied().unwrap_or(0.0),
+        _ => 0.0,
+    };
+    (0..steps).map(|step| pattern.map(|row| place(row, step))).collect()
+}
+
 struct Run {
     word: Vec<u8>,
     score: f32,
@@ -94,22 +125,13 @@ struct Run {
 }
 
 impl Trellis {
-    fn steps(&self, info: usize) -> usize {
-        info + self.width
-    }
-
-    fn run(&self, pattern: &[&str; 2], readings: &[f32], info: usize) -> Run {
+    fn run(&self, pairs: &[[f32; 2]], info: usize) -> Run {
         let mark = f32::MIN / 2.0;
         let states = 1 << self.width;
         let mut metrics = vec![mark; states];
         metrics[0] = 0.0;
         let mut survivors = Vec::new();
-        let mut readings = readings.iter();
-        for step in 0..self.steps(info) {
-            let [a, b] = pattern.map(|row| match row.as_bytes()[step % row.len()] {
-                b'1' => readings.next().copied().unwrap_or(0.0),
-                _ => 0.0,
-            });
+        for &[a, b] in pairs {
             let mut next = vec![(mark, 0); states];
             for state in (0..states).filter(|state| metrics[*state] > mark) {
                 for input in [0, 1] {

@@ -1,15 +1,15 @@
 //! The encoders and the coded length.
 
-use crate::{After, INFO_LIMIT, refused};
+use crate::{After, INFO_LIMIT, refused, standard};
 use oracle::fec::conv::{ConvCode, PunctureRate, conv_encode_punctured_with, punctured_coded_len_with};
 
 /// `relay_encode`, for an `out` as it is before the call.
 pub fn encode(code: u8, rate: u8, info: &[u8], out: &[u8]) -> After {
-    let (code, rate) = match selected(code, rate, info.len()) {
-        Ok(selection) => selection,
-        Err(number) => return After::refusal(number, out),
-    };
-    fit(&conv_encode_punctured_with(code, info, rate), out)
+    match selected(code, rate, info.len()) {
+        Ok(Selected::Oracle(code, rate)) => fit(&conv_encode_punctured_with(code, info, rate), out),
+        Ok(Selected::Standard(rate)) => fit(&standard::encode(rate, info), out),
+        Err(number) => After::refusal(number, out),
+    }
 }
 
 /// `relay_conv_encode`, for an `out` as it is before the call.
@@ -23,19 +23,35 @@ pub fn conv_encode(bits: &[u8], out: &[u8]) -> After {
 /// `relay_coded_len`.
 pub fn coded_len(code: u8, rate: u8, info: usize) -> u64 {
     match selected(code, rate, info) {
-        Ok((code, rate)) => punctured_coded_len_with(code, info, rate) as u64,
+        Ok(selected) => selected.coded_len(info) as u64,
         Err(number) => refused(number),
     }
 }
 
-/// The oracle's code and rate, or the first of the refusals 1, 2 and 3 that is due.
-pub(crate) fn selected(code: u8, rate: u8, info: usize) -> Result<(ConvCode, PunctureRate), u64> {
+/// What a code number and a rate number select: the oracle's code and rate, or the standard's at the rate number.
+pub(crate) enum Selected {
+    Oracle(ConvCode, PunctureRate),
+    Standard(u8),
+}
+
+impl Selected {
+    pub(crate) fn coded_len(&self, info: usize) -> usize {
+        match *self {
+            Selected::Oracle(code, rate) => punctured_coded_len_with(code, info, rate),
+            Selected::Standard(rate) => standard::coded_len(rate, info),
+        }
+    }
+}
+
+/// What is selected, or the first of the refusals 1, 2 and 3 that is due.
+pub(crate) fn selected(code: u8, rate: u8, info: usize) -> Result<Selected, u64> {
     let code = match code {
-        0 => ConvCode::K5,
-        1 => ConvCode::DvbK7,
+        0 => Some(ConvCode::K5),
+        1 => Some(ConvCode::DvbK7),
+        2 => None,
         _ => return Err(1),
     };
-    let rate = match rate {
+    let oracle_rate = match rate {
         0 => PunctureRate::R1_2,
         1 => PunctureRate::R2_3,
         2 => PunctureRate::R3_4,
@@ -43,7 +59,10 @@ pub(crate) fn selected(code: u8, rate: u8, info: usize) -> Result<(ConvCode, Pun
         4 => PunctureRate::R7_8,
         _ => return Err(2),
     };
-    if info > INFO_LIMIT { Err(3) } else { Ok((code, rate)) }
+    if info > INFO_LIMIT {
+        return Err(3);
+    }
+    Ok(code.map_or(Selected::Standard(rate), |code| Selected::Oracle(code, oracle_rate)))
 }
 
 /// The coded bits in `out`, or refusal 4 where it is too short.

@@ -1,19 +1,21 @@
 //! What each door must answer and leave in its buffers. An accepted input's output is the oracle's; whether an
 //! input is accepted is decided here, from 01's table of refusal numbers, and from nothing of the proved code. The
-//! reader for pauses, which the oracle does not have, is by the words of request 2026-01.
+//! reader for pauses and code number 2, which the oracle does not have, are by the words of the requests 2026-01 and
+//! 2026-04.
 
 pub mod decoder;
 pub mod encoder;
 pub mod program;
 mod random;
+mod standard;
 pub mod streaming;
 pub mod symbols;
 pub mod varicode;
 
 pub use random::Random;
 
-/// The codes and rates that 01 numbers, each with its name.
-pub const CODES: [(u8, &str); 2] = [(0, "K5"), (1, "K7")];
+/// The codes and rates that 01 numbers, each with its name. DVB is K7 with the keep patterns of EN 300 744.
+pub const CODES: [(u8, &str); 3] = [(0, "K5"), (1, "K7"), (2, "DVB")];
 pub const RATES: [(u8, &str); 5] = [(0, "1/2"), (1, "2/3"), (2, "3/4"), (3, "5/6"), (4, "7/8")];
 
 /// The most info bits that one call may bring.

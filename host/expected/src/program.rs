@@ -46,7 +46,7 @@ mod tests {
         assert_eq!(output(&[0, 0, 1, 0, 0, 0, 0x80, 0xBF]), "word 1 score 3F800000\n");
         assert_eq!(output(&[0, 0, 0, 0]), "word - score 00000000\n");
         assert_eq!(output(&[]), "refused 10 at 0\n");
-        assert_eq!(output(&[2, 5, 0xFF, 0xFF]), "refused 1 at 0\n");
+        assert_eq!(output(&[3, 5, 0xFF, 0xFF]), "refused 1 at 0\n");
         assert_eq!(output(&[1, 4, 0xE9, 3]), "refused 3 at 0\n");
     }
 }

@@ -1,8 +1,9 @@
 //! Readings that the decoder accepts.
 
-use super::call::{Call, bytes, scratch_len};
+use super::call::{Call, bytes};
 use crate::groups::Outcome;
 use crate::lent::{Fill, filled};
+use expected::decoder::survivors;
 use expected::encoder::{coded_len, encode};
 use expected::{INFO_LIMIT, Random};
 
@@ -65,7 +66,7 @@ pub const KINDS: [Kind; 4] = [
 pub fn every_list(code: u8, rate: u8) -> Outcome {
     let mut cases = 0;
     for info in 0..=ALL_INFO {
-        let (out, scratch) = (vec![0xA5; info + 1], vec![0xA5; scratch_len(code, info) + 1]);
+        let (out, scratch) = (vec![0xA5; info + 1], vec![0xA5; survivors(code, info) + 1]);
         for len in 0..=ALL_LISTS {
             for number in 0..6usize.pow(len) {
                 let list: Vec<f32> = (0..len).map(|at| VALUES[number / 6usize.pow(at) % 6]).collect();
@@ -124,7 +125,7 @@ pub fn noisy(code: u8, rate: u8, random: &mut Random) -> Outcome {
 fn every_buffer(code: u8, rate: u8, info: usize, readings: &[u8], random: &mut Random) -> Outcome {
     for more in [0, 30] {
         let out = filled(Fill::Varying, info + more, random);
-        let scratch = filled(Fill::Varying, scratch_len(code, info) + more, random);
+        let scratch = filled(Fill::Varying, survivors(code, info) + more, random);
         Call {
             code,
             rate,

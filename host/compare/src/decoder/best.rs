@@ -1,8 +1,10 @@
 //! Demand 3 by trying every word: the word that the door gives has the best score, is the first among equals by the
-//! tie rule, carries that score, and stays when readings move towards it. Codewords are the oracle's.
+//! tie rule, carries that score, and stays when readings move towards it. Codewords are the oracle's, and for number 2
+//! those of the standard's sequences.
 
-use super::call::{bytes, scratch_len};
+use super::call::bytes;
 use crate::groups::Outcome;
+use expected::decoder::{survivors, width};
 use expected::encoder::{coded_len, encode};
 use expected::{CODES, RATES, Random};
 use relay_coder::doors;
@@ -52,7 +54,7 @@ fn words(code: u8, rate: u8, info: usize) -> Vec<Word> {
 }
 
 fn states(code: u8, bits: &[u8]) -> Vec<u32> {
-    let width = if code == 1 { 6 } else { 4 };
+    let width = width(code);
     let mut state = 0;
     let mut passed: Vec<u32> = bits
         .iter()
@@ -138,7 +140,7 @@ fn door(code: u8, rate: u8, info: usize, readings: &[i32]) -> (Vec<u8>, f32) {
             }
         })
         .collect();
-    let (mut out, mut scratch) = (vec![0; info], vec![0; scratch_len(code, info)]);
+    let (mut out, mut scratch) = (vec![0; info], vec![0; survivors(code, info)]);
     let answer = doors::decode(code, rate, info, &bytes(&list), &mut out, &mut scratch);
     let score = relay_coder::score(answer).expect("whole readings are accepted");
     (out, score)

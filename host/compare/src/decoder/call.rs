@@ -17,12 +17,6 @@ pub fn bytes(readings: &[f32]) -> Vec<u8> {
     readings.iter().flat_map(|reading| reading.to_le_bytes()).collect()
 }
 
-/// How much scratch a decoding needs, by 01: steps times states.
-pub fn scratch_len(code: u8, info: usize) -> usize {
-    let tail = if code == 1 { 6 } else { 4 };
-    (info + tail) << tail
-}
-
 impl Call<'_> {
     /// Compares the door with what the oracle, or 01's table, gives.
     pub fn compare(&self, out: &[u8], scratch: &[u8]) -> Result<(), String> {

@@ -1,10 +1,10 @@
 //! Inputs that the decoder refuses, alone and several faults at once.
 
-use super::call::{Call, bytes, scratch_len};
+use super::call::{Call, bytes};
 use crate::encoder::refused::{has, lowest};
 use crate::groups::Outcome;
 use crate::lent::{FILLS, Fill, filled};
-use expected::decoder::AfterBlock;
+use expected::decoder::{AfterBlock, survivors};
 use expected::encoder::coded_len;
 use expected::{INFO_LIMIT, Random, refused};
 
@@ -23,7 +23,7 @@ pub fn bad_readings(code: u8, rate: u8, random: &mut Random) -> Outcome {
                 list[last] = bad;
                 let readings = &bytes(&list);
                 let out = filled(Fill::Varying, info, random);
-                let scratch = filled(Fill::Varying, scratch_len(code, info), random);
+                let scratch = filled(Fill::Varying, survivors(code, info), random);
                 let call = Call {
                     code,
                     rate,
@@ -47,7 +47,7 @@ pub fn every_number(random: &mut Random) -> Outcome {
     for code in 0..=255 {
         for rate in 0..=255 {
             let out = filled(Fill::Canary, 10, random);
-            let scratch = filled(Fill::Canary, scratch_len(1, 10), random);
+            let scratch = filled(Fill::Canary, survivors(1, 10), random);
             Call {
                 code,
                 rate,
@@ -64,7 +64,7 @@ pub fn every_number(random: &mut Random) -> Outcome {
 pub fn faults(random: &mut Random) -> Outcome {
     let mut cases = 0;
     for faults in 1..64 {
-        for code in if has(faults, 1) { [2, 255] } else { [0, 1] } {
+        for code in if has(faults, 1) { [3, 4, 255] } else { [0, 1, 2] } {
             for rate in if has(faults, 2) { [5, 255] } else { [0, 4] } {
                 for info in if has(faults, 3) {
                     [INFO_LIMIT + 1, usize::MAX]
@@ -82,7 +82,7 @@ pub fn faults(random: &mut Random) -> Outcome {
 fn faulty(faults: u32, code: u8, rate: u8, info: usize, random: &mut Random) -> Outcome {
     let need = info.min(INFO_LIMIT);
     let room = if has(faults, 4) { need - 1 } else { need };
-    let rows = scratch_len(code, need);
+    let rows = survivors(code, need);
     let space = if has(faults, 5) { rows - 1 } else { rows };
     let readings = &bytes(&[if has(faults, 6) { f32::NAN } else { 1.0 }]);
     for fill in FILLS {

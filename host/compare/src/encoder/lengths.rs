@@ -55,7 +55,7 @@ pub fn every_number() -> Outcome {
 pub fn faults() -> Outcome {
     let mut cases = 0;
     for faults in 1..8 {
-        for code in if has(faults, 1) { [2, 255] } else { [0, 1] } {
+        for code in if has(faults, 1) { [3, 4, 255] } else { [0, 1, 2] } {
             for rate in if has(faults, 2) { [5, 255] } else { [0, 4] } {
                 for info in if has(faults, 3) {
                     [INFO_LIMIT + 1, usize::MAX]

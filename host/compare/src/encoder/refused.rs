@@ -45,7 +45,7 @@ pub fn every_number(random: &mut Random) -> Outcome {
 pub fn faults_of_encode(random: &mut Random) -> Outcome {
     let mut cases = 0;
     for faults in 1..16 {
-        for code in if has(faults, 1) { [2, 255] } else { [0, 1] } {
+        for code in if has(faults, 1) { [3, 4, 255] } else { [0, 1, 2] } {
             for rate in if has(faults, 2) { [5, 255] } else { [0, 4] } {
                 cases += faulty(Entry::With { code, rate }, faults, random)?;
             }

@@ -1,7 +1,8 @@
 //! The block decoder's part of the list.
 
 use super::Stored;
-use expected::{CODES, INFO_LIMIT, RATES, Random, encoder};
+use expected::decoder::survivors;
+use expected::{INFO_LIMIT, RATES, Random, encoder};
 use list::decoder::{block_line, repeated_line};
 
 /// Readings of each kind: whole, fractional, such as overflow or nearly vanish, and one that is refused.
@@ -16,24 +17,37 @@ pub fn add(list: &mut Stored, random: &mut Random) {
     );
     list.comment("after the call.");
     bench_sheet(list);
-    for (code, _) in CODES {
-        for (rate, _) in RATES {
-            kinds(list, code, rate, random);
-            bad_readings(list, code, rate);
-        }
-    }
+    each_rate(list, 0, random);
+    each_rate(list, 1, random);
     refusals(list);
     limits(list);
 }
 
-fn bytes_of(readings: &[f32]) -> Vec<u8> {
-    readings.iter().flat_map(|reading| reading.to_le_bytes()).collect()
+/// Code number 2.
+pub fn add_standard(list: &mut Stored, random: &mut Random) {
+    list.comment("b of code number 2, K7 with the keep patterns of EN 300 744: answers by the standard.");
+    each_rate(list, 2, random);
+    let nan = bytes_of(&[f32::NAN]);
+    for (rate, info, room, scratch) in [
+        (5, INFO_LIMIT + 1, 0, 0),
+        (4, INFO_LIMIT + 1, 0, 0),
+        (4, 3, 2, 0),
+        (4, 3, 3, survivors(2, 3) - 1),
+        (4, 3, 3, survivors(2, 3)),
+    ] {
+        list.add(block_line(2, rate, info, &nan, room, scratch));
+    }
 }
 
-/// Steps times states.
-fn survivors(code: u8, info: usize) -> usize {
-    let tail = if code == 1 { 6 } else { 4 };
-    (info + tail) << tail
+fn each_rate(list: &mut Stored, code: u8, random: &mut Random) {
+    for (rate, _) in RATES {
+        kinds(list, code, rate, random);
+        bad_readings(list, code, rate);
+    }
+}
+
+fn bytes_of(readings: &[f32]) -> Vec<u8> {
+    readings.iter().flat_map(|reading| reading.to_le_bytes()).collect()
 }
 
 fn block(list: &mut Stored, code: u8, rate: u8, info: usize, readings: &[f32], more: usize) {
@@ -79,7 +93,7 @@ fn bad_readings(list: &mut Stored, code: u8, rate: u8) {
 fn refusals(list: &mut Stored) {
     let nan = bytes_of(&[f32::NAN]);
     for (code, rate, info, room, scratch) in [
-        (2, 5, INFO_LIMIT + 1, 0, 0),
+        (3, 5, INFO_LIMIT + 1, 0, 0),
         (1, 5, INFO_LIMIT + 1, 0, 0),
         (1, 4, INFO_LIMIT + 1, 0, 0),
         (1, 4, 3, 2, 0),

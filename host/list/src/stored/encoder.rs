@@ -1,7 +1,7 @@
 //! The encoders' and the coded length's part of the list.
 
 use super::Stored;
-use expected::{CODES, INFO_LIMIT, RATES, Random, encoder};
+use expected::{INFO_LIMIT, RATES, Random, encoder};
 use list::line::{Line, bytes, lent, number};
 
 /// Every word up to this many bits is listed.
@@ -11,19 +11,32 @@ const ALL_WORDS: usize = 4;
 const LENGTHS: [usize; 10] = [5, 6, 7, 8, 9, 13, 15, 63, 64, 65];
 
 /// Codes and rates that select, and some that do not.
-const CODE_NUMBERS: [u8; 4] = [0, 1, 2, 255];
+const CODE_NUMBERS: [u8; 4] = [0, 1, 3, 255];
 const RATE_NUMBERS: [u8; 4] = [0, 4, 5, 255];
 
 pub fn add(list: &mut Stored, random: &mut Random) {
     list.comment("e: encode. Code, rate, info, length of out; the answer, out after the call.");
-    short_words(list);
-    lengths(list, random);
-    refusals(list, random);
+    short_words(list, &[0, 1]);
+    lengths(list, &[0, 1], random);
+    refusals(list, &CODE_NUMBERS, random);
     limit(list, random);
     list.comment("p: plain conv_encode. Bits, length of out; the answer, out after the call.");
     plain(list, random);
     list.comment("l: coded length. Code, rate, info count; the answer.");
-    coded_lengths(list);
+    coded_lengths(list, &[0, 1]);
+    unknown_lengths(list, &CODE_NUMBERS);
+}
+
+/// Code number 2.
+pub fn add_standard(list: &mut Stored, random: &mut Random) {
+    list.comment("e and l of code number 2, K7 with the keep patterns of EN 300 744: answers by the standard.");
+    short_words(list, &[2]);
+    lengths(list, &[2], random);
+    refusals(list, &[2], random);
+    encode(list, 2, 2, &random.bytes(INFO_LIMIT), room(2, 2, INFO_LIMIT) + 3);
+    encode(list, 2, 2, &random.bytes(INFO_LIMIT + 1), room(2, 0, INFO_LIMIT));
+    coded_lengths(list, &[2]);
+    unknown_lengths(list, &[2]);
 }
 
 fn encode(list: &mut Stored, code: u8, rate: u8, info: &[u8], room: usize) {
@@ -54,10 +67,10 @@ fn room(code: u8, rate: u8, info: usize) -> usize {
     encoder::coded_len(code, rate, info) as usize
 }
 
-fn each_code_and_rate(mut add: impl FnMut(u8, u8)) {
-    for (code, _) in CODES {
+fn each_rate(codes: &[u8], mut add: impl FnMut(u8, u8)) {
+    for code in codes {
         for (rate, _) in RATES {
-            add(code, rate);
+            add(*code, rate);
         }
     }
 }
@@ -66,8 +79,8 @@ fn words() -> impl Iterator<Item = Vec<u8>> {
     (0..=ALL_WORDS).flat_map(|len| (0..1 << len).map(move |word| (0..len).map(|at| (word >> at & 1) as u8).collect()))
 }
 
-fn short_words(list: &mut Stored) {
-    each_code_and_rate(|code, rate| {
+fn short_words(list: &mut Stored, codes: &[u8]) {
+    each_rate(codes, |code, rate| {
         for info in words() {
             encode(list, code, rate, &info, room(code, rate, info.len()));
         }
@@ -75,8 +88,8 @@ fn short_words(list: &mut Stored) {
 }
 
 /// At each length the upper bits are set, and the buffer is exact, one short, or a few long.
-fn lengths(list: &mut Stored, random: &mut Random) {
-    each_code_and_rate(|code, rate| {
+fn lengths(list: &mut Stored, codes: &[u8], random: &mut Random) {
+    each_rate(codes, |code, rate| {
         for (at, len) in LENGTHS.into_iter().enumerate() {
             let exact = room(code, rate, len);
             let rooms = [exact, exact - 1, exact + 1, exact + 5];
@@ -92,11 +105,11 @@ fn lengths(list: &mut Stored, random: &mut Random) {
 }
 
 /// Codes, rates and rooms that are refused, alone and together.
-fn refusals(list: &mut Stored, random: &mut Random) {
-    for code in CODE_NUMBERS {
+fn refusals(list: &mut Stored, codes: &[u8], random: &mut Random) {
+    for code in codes {
         for rate in RATE_NUMBERS {
             for room in [0, 12] {
-                encode(list, code, rate, &random.bits(3), room);
+                encode(list, *code, rate, &random.bits(3), room);
             }
         }
     }
@@ -126,16 +139,20 @@ fn plain(list: &mut Stored, random: &mut Random) {
     conv_encode(list, &bits, 1);
 }
 
-fn coded_lengths(list: &mut Stored) {
-    each_code_and_rate(|code, rate| {
+fn coded_lengths(list: &mut Stored, codes: &[u8]) {
+    each_rate(codes, |code, rate| {
         for info in [0, 1, 2, 3, 10, INFO_LIMIT, INFO_LIMIT + 1, usize::MAX] {
             coded_len(list, code, rate, info);
         }
     });
-    for code in CODE_NUMBERS {
+}
+
+/// Rates that select and that do not, and counts within the limit and beyond.
+fn unknown_lengths(list: &mut Stored, codes: &[u8]) {
+    for code in codes {
         for rate in RATE_NUMBERS {
-            coded_len(list, code, rate, 7);
-            coded_len(list, code, rate, 1 << 32);
+            coded_len(list, *code, rate, 7);
+            coded_len(list, *code, rate, 1 << 32);
         }
     }
 }
