@@ -14,8 +14,8 @@ use call_lines::print::print_answer;
 use call_lines::print::print_bytes;
 use call_lines::print::print_number;
 use call_lines::shapes::COMPONENTS;
+use f32_answers::word_number;
 use refusal::count_number;
-use refusal::word_number;
 
 fn print_both(answer: u64, out: &[u8], scratch: &[u8]) {
     print_answer(answer, out);

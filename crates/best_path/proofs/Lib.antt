@@ -4,8 +4,8 @@
 -- which of two paths beats the other. BestPath: the way back is the best path. InfoWords: and from state 0 the best info word.
 -- Simulation: metrics that agree step by step have runs that agree. Rows: rows of survivors. Back: the way back over them.
 -- Candidates: two branches into a state, as a decoder compares them. Butterfly: the four branches of two states. Turns: the
--- butterfly's loop, turn by turn. NoBetter: no branch is better than the metric of the state that it leads to. Unique: each
--- contract allows one outcome at most.
+-- butterfly's loop, turn by turn. NoBetter: no branch is better than the metric of the state that it leads to. Sizes: the
+-- sizes of whole numbers. Unique: each contract allows one outcome at most.
 pub mod Visiting
 pub mod Survivors
 pub mod Start
@@ -24,4 +24,5 @@ pub mod Candidates
 pub mod Butterfly
 pub mod Turns
 pub mod NoBetter
+pub mod Sizes
 pub mod Unique

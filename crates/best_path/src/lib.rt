@@ -1,5 +1,5 @@
-// What the decoders share: a new state as they hold it, and the way back over rows of survivors, which spells
-// the word, for any code. The rest of this crate is definitions and laws over any metric and any code.
+// What the decoders share: the way back over rows of survivors, which spells the word, for any code. The rest of
+// this crate is definitions and laws over any metric and any code.
 ghost use mathlib.Core.Bool.{cond};
 ghost use mathlib.Core.List.{_++_};
 ghost use mathlib.Core.Path.{_≡_};
@@ -7,18 +7,6 @@ ghost use lib.Dec.{ltb};
 ghost use lib.ListN.{length, drop};
 ghost use Rattle.best_path.specs.Rows.{spelled, Traceable};
 use trellis::ConvCode;
-
-// The best way into a state so far: its metric, and the state that it comes from.
-pub struct NewState {
-    pub met: f32,
-    pub from: u8,
-}
-
-// What two states lead to: the new state on the input 0, and on the input 1.
-pub struct Wing {
-    pub low: NewState,
-    pub high: NewState,
-}
 
 // The way back over the rows of survivors, from the state `last` after the last step. The inputs of the
 // first `info` steps go to out; those of the tail are dropped.

@@ -9,13 +9,12 @@ use lib.Ieee.{Float}
 use lib.IntN.{ℤ, _+ℤ_, +ℤ-comm}
 use lib.ListN.{length, replicate}
 use lib.Signed.{ltZ}
-use Rattle.best_path.specs.Path.{Ahead, gained}
+use Rattle.best_path.specs.Path.{total, Ahead, gained}
 use Rattle.best_path.proofs.InfoWords.{BestInfo, info-leads, best-info-word}
 use Rattle.best_path.proofs.Order.{AtMost, ltZ-total, ltZ-irrefl, at-most-not-below, at-most-antisym, at-most-rest, ahead-asym}
 use Rattle.correlation.specs.Decode as any
 use Rattle.correlation.specs.Gain.{gain}
-use Rattle.correlation.specs.Whole.{whole}
-use Rattle.f32s.specs.Whole.{floatOf}
+use Rattle.correlation.specs.Whole.{whole, exactly}
 use Rattle.forward.specs.Decode.{word, score}
 use Rattle.trellis.specs.declared.ConvCode.{ConvCode}
 use Rattle.trellis.specs.Choice.{k7, standard, patternIn, codeOf, patternOf}
@@ -24,10 +23,12 @@ use Rattle.trellis.specs.Keep.{Keep, Pattern, codedLength}
 use Rattle.trellis.specs.Standard.{standardCode}
 use Rattle.trellis.proofs.Chosen.{code-narrow, rate-pattern}
 use Rattle.trellis.proofs.Sent.{length-codeword, tailed-bits}
-use Rattle.best_word.specs.Claim.{InfoWord, Exact, Towards, scoreOf, statesOf, Claim}
+use Rattle.best_word.specs.Claim.{InfoWord, Exact, Towards, scoreOf, statesOf, Wins, Claim}
 use Rattle.best_word.proofs.Score.{gained-codeword}
 use Rattle.best_word.proofs.Towards.{codeword-bits, agreement-towards}
 use Rattle.best_word.proofs.WholeRun.{word-whole, score-whole}
+
+-- ---- the decoder in whole numbers
 
 module _ (code : ConvCode) (some : 0 < code .width) (p : Keep) (good : Pattern p) (info : ℕ) where
   abbrev points : List ℕ → List ℤ → ℤ
@@ -37,15 +38,13 @@ module _ (code : ConvCode) (some : 0 < code .width) (p : Keep) (good : Pattern p
   abbrev First : List ℕ → List ℕ → Type 0
   First v u = (v ≡ u) ⊎ Ahead (statesOf code p info v) (statesOf code p info u)
 
-  module _ (readings : List Float) (zs : List ℤ) (exact : Exact code p info readings zs) where
+  module _ (zs : List ℤ) where
     abbrev decoded : List ℕ
-    decoded = word code p readings info
+    decoded = any.word exactly code p zs info
 
     best-decoded : (z : ℤ) × BestInfo code (gain whole code p zs) info decoded z
-    unfolding any.froms
-    best-decoded =
-        rw (word-whole code some p good readings zs info (exact .whole) (exact .small))
-        (best-info-word code some (gain whole code p zs) info)
+    unfolding any.word any.froms
+    best-decoded = best-info-word code some (gain whole code p zs) info
 
     decoded-is-word : InfoWord info decoded
     decoded-is-word = record { sized = best-decoded .1 .sized; bits = best-decoded .1 .bits }
@@ -69,55 +68,62 @@ module _ (code : ConvCode) (some : 0 < code .width) (p : Keep) (good : Pattern p
         (λ h. inr (h .0, ⊎-elim (λ e. inl (append-cancel-right decoded u (replicate (code .width) 0) e)) (λ a. inr a) (h .1)))
         (best-decoded .1 .best .best _ (info-leads code some info u (is .sized) (is .bits)) .beats))
 
-    decoded-wins : (u : List ℕ) → InfoWord info u → ltZ (points decoded zs) (points u zs) ≡ false
-    decoded-wins u is = at-most-not-below (points u zs) (points decoded zs) (⊎-elim (λ h. inl h) (λ h. inr (h .0)) (decoded-beats u is))
+    decoded-not-behind : (u : List ℕ) → InfoWord info u → ltZ (points decoded zs) (points u zs) ≡ false
+    decoded-not-behind u is =
+        at-most-not-below (points u zs) (points decoded zs) (⊎-elim (λ h. inl h) (λ h. inr (h .0)) (decoded-beats u is))
 
     decoded-first : (u : List ℕ) → InfoWord info u → points u zs ≡ points decoded zs → First decoded u
     decoded-first u is e =
         ⊎-elim (λ h. absurd (true≢false (sym (rw e at h) ∙ ltZ-irrefl (points decoded zs)))) (λ h. h .1) (decoded-beats u is)
 
-    decoded-scored : score code p readings info ≡ floatOf (points decoded zs)
-    unfolding any.mets
-    decoded-scored =
-        score-whole code some p good readings zs info (exact .whole) (exact .small) (best-decoded .0) (best-decoded .1 .counted)
-        ∙ ap floatOf (sym (best-decoded .1 .best .gains-it) ∙ gained-points decoded decoded-is-word)
+    pub decoded-wins : Wins code p info zs (any.word exactly code p zs info)
+    decoded-wins = record { is-word = decoded-is-word; wins = decoded-not-behind; first = decoded-first }
+
+    pub decoded-counts : any.score exactly code p zs info ≡ total (scoreOf code p info (any.word exactly code p zs info) zs)
+    unfolding any.score any.mets
+    decoded-counts =
+        best-decoded .1 .counted ∙ ap total (sym (best-decoded .1 .best .gains-it) ∙ gained-points decoded decoded-is-word)
 
   -- After the move the two words tie, and so they did before it; each time the tie rule puts the same one first.
-  decoded-stays :
-      (readings : List Float) (zs : List ℤ) → Exact code p info readings zs → (others : List Float) (moved : List ℤ) →
-      Exact code p info others moved → Towards (codeword code p (word code p readings info)) zs moved →
-      word code p others info ≡ word code p readings info
-  decoded-stays readings zs exact others moved also near =
-      let v = word code p readings info in
-      let w = word code p others info in
-      let is-v = decoded-is-word readings zs exact in
-      let is-w = decoded-is-word others moved also in
+  pub decoded-stays :
+      (zs moved : List ℤ) → Towards (codeword code p (any.word exactly code p zs info)) zs moved →
+      any.word exactly code p moved info ≡ any.word exactly code p zs info
+  decoded-stays zs moved near =
+      let v = any.word exactly code p zs info in
+      let w = any.word exactly code p moved info in
+      let is-v = decoded-is-word zs in
+      let is-w = decoded-is-word moved in
       let sized : length (codeword code p w) ≡ length (codeword code p v) =
       length-codeword code p good w ∙ ap (λ (n : ℕ). codedLength p (stepsOf code n)) (is-w .sized ∙ sym (is-v .sized))
       ∙ sym (length-codeword code p good v) in
       let nearer : AtMost (points w moved +ℤ points v zs) (points w zs +ℤ points v moved) =
       agreement-towards (codeword code p w) (codeword code p v) zs moved sized (codeword-bits code p v) near in
-      let before : AtMost (points w zs) (points v zs) = ltZ-total _ _ (decoded-wins readings zs exact w is-w) in
-      let after : AtMost (points v moved) (points w moved) = ltZ-total _ _ (decoded-wins others moved also v is-v) in
+      let before : AtMost (points w zs) (points v zs) = ltZ-total _ _ (decoded-not-behind zs w is-w) in
+      let after : AtMost (points v moved) (points w moved) = ltZ-total _ _ (decoded-not-behind moved v is-v) in
       let tied : points w zs ≡ points v zs = at-most-antisym _ _ before (at-most-rest _ _ _ _ nearer after) in
       let turned : AtMost (points v zs +ℤ points w moved) (points v moved +ℤ points w zs) =
       rw (+ℤ-comm (points v zs) (points w moved), +ℤ-comm (points v moved) (points w zs)) nearer in
       let still-tied : points v moved ≡ points w moved = at-most-antisym _ _ after (at-most-rest _ _ _ _ turned before) in
       ⊎-elim sym
-      (λ a. ⊎-elim (λ e. e) (λ b. absurd (ahead-asym _ _ a b)) (decoded-first others moved also v is-v still-tied))
-      (decoded-first readings zs exact w is-w tied)
+      (λ a. ⊎-elim (λ e. e) (λ b. absurd (ahead-asym _ _ a b)) (decoded-first moved v is-v still-tied))
+      (decoded-first zs w is-w tied)
+
+-- ---- in f32, where nothing is rounded
 
 pub best-word-wins :
     (code : ConvCode) → 0 < code .width → (p : Keep) → Pattern p → (info : ℕ) (readings : List Float) (zs : List ℤ) →
     Exact code p info readings zs → Claim code p info zs (word code p readings info) (score code p readings info)
+unfolding any.score
 best-word-wins code some p good info readings zs exact =
-    record {
-      is-word = decoded-is-word code some p good info readings zs exact;
-      wins = decoded-wins code some p good info readings zs exact;
-      first = decoded-first code some p good info readings zs exact;
-      scored = decoded-scored code some p good info readings zs exact;
-      stays = decoded-stays code some p good info readings zs exact;
-    }
+    rw (word-whole code some p good readings zs info (exact .whole) (exact .small))
+    (record {
+      best = decoded-wins code some p good info zs;
+      scored =
+          score-whole code some p good readings zs info (exact .whole) (exact .small) _ (decoded-counts code some p good info zs);
+      stays = λ others moved also near.
+          word-whole code some p good others moved info (also .whole) (also .small)
+          ∙ decoded-stays code some p good info zs moved near;
+    })
 
 -- the codes and keep patterns of the tables
 pub decoded-word-wins :

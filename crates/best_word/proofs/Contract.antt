@@ -12,18 +12,20 @@ use lib.Ieee.{Float, nan}
 use lib.IntN.{ℤ}
 use lib.ListN.{length, take}
 use lib.Seq.{take-at}
+use Rattle.correlation.specs.Said.{answered}
+use Rattle.correlation.proofs.Answers.{accepted-score}
 use Rattle.correlation.proofs.Lengths.{length-word}
+use Rattle.f32_answers.specs.Answer.{Scores}
+use Rattle.f32_answers.specs.declared.Decoded.{Decoded}
 use Rattle.f32s.specs.Single.{finite, allOfBytes}
 use Rattle.f32s.proofs.Wholes.{whole-finite}
 use Rattle.forward.specs.Decode.{word, score}
 use Rattle.forward.specs.Sums.{soft}
 use Rattle.readings.specs.Promise.{Decodes}
 use Rattle.readings.specs.Said.{survivorsOf, examined, decodeSaid}
-use Rattle.readings.proofs.Answers.{accepted-score}
 use Rattle.readings.proofs.viterbi_decode_bytes.Reads as viterbi-decode-bytes
 use Rattle.readings.proofs.viterbi_decode_soft_with.Reads as viterbi-decode-soft-with
-use Rattle.refusal.specs.Answer.{Said, accepted, refused, refuseWhen, Scores}
-use Rattle.refusal.specs.declared.Decoded.{Decoded}
+use Rattle.refusal.specs.Answer.{Said, accepted, refused, refuseWhen}
 use Rattle.refusal.specs.Lent.{over, leaves, Lent}
 use Rattle.refusal.specs.Limits.{most}
 use Rattle.refusal.specs.Numbers.{badReading}
@@ -70,7 +72,7 @@ module _ (code rate info : ℕ) (readings : List Float) (room scratch : ℕ) whe
   -- so no test is left that refuses with 6
   none-6 :
       (zs : List ℤ) → Exact (codeOf code) (patternOf code rate) info readings zs → (place : ℕ) → said ≡ refused badReading place → ⊥
-  unfolding decodeSaid
+  unfolding answered
   none-6 zs exact place e =
       let known-code = past-other (not (knownCode code)) 1 6 place _ (λ h. omega arith) e in
       let known-rate = past-other (not (knownRate code rate)) 2 6 place _ (λ h. omega arith) known-code in
@@ -93,7 +95,7 @@ promise-claimed code rate info readings {r} {out} {scratch} promised =
           let accepts : said code rate info readings room work ≡ accepted s = sym (promised .answer) ∙ e in
           rw (
             written code rate info readings room work s accepts (out .left) (out .given) (promised .output),
-            accepted-score code rate info readings room work s accepts,
+            accepted-score _ _ code rate info readings room work _ s accepts,
           )
           (decoded-word-wins code rate info readings zs exact);
       never-6 = λ zs exact place e. none-6 code rate info readings room work zs exact place (sym (promised .answer) ∙ e);

@@ -12,6 +12,7 @@ use Rattle.best_path.specs.Path.{gained}
 use Rattle.best_path.proofs.InfoWords.{info-leads}
 use Rattle.correlation.specs.Gain.{correlation, brings, read0, read1, gain}
 use Rattle.correlation.specs.Whole.{whole}
+use Rattle.correlation.proofs.Sizes.{signedSum}
 use Rattle.trellis.specs.declared.ConvCode.{ConvCode}
 use Rattle.trellis.specs.Codeword.{coded0, coded1, sentBy, stepsOf, codeword}
 use Rattle.trellis.specs.Keep.{Keep, Pattern, keeps0, keeps1, onlyIf, keptOf, keptThrough, codedLength}
@@ -21,7 +22,7 @@ use Rattle.trellis.proofs.Places.{reading-value}
 use Rattle.trellis.proofs.Sent.{length-sent, tailed-bits, coded0-state, coded1-state}
 use Rattle.trellis.proofs.States.{Inputs}
 use Rattle.best_word.specs.Claim.{agreement, InfoWord}
-use Rattle.best_word.proofs.WholeRun.{readOf, signedSum}
+use Rattle.best_word.proofs.WholeRun.{readOf}
 
 -- ---- the agreement of a list in parts
 

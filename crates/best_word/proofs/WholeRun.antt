@@ -2,27 +2,28 @@
 -- the word are those of the decoder in whole numbers, and the score is the f32 of its total at state 0, bit for bit. Assumes
 -- nothing.
 use mathlib.Core.Bool.{Bool, true, false, not, cond}
-use mathlib.Core.List.{List, [], _∷_}
-use mathlib.Core.Path.{_≡_, refl, sym, ap, subst, _∙_}
+use mathlib.Core.List.{List, [], _∷_, _++_}
+use mathlib.Core.Path.{_≡_, refl, sym, ap, ap₂, subst, _∙_}
 use Prim.Native.Nat.{ℕ, zero, suc, _+_, _-_, _^_, _≤_, _<_}
 use native.Mathlib.Decide.{decLt}
 use native.Mathlib.Nat.{le-refl, add-zero}
 use native.Mathlib.Numerals.{add-one}
 use native.Mathlib.Omega.{arith}
-use borrow.Author.Tests.{ltb-true, ltb-false}
-use lib.Dec.{ltb, eqb}
+use lib.Dec.{eqb}
 use lib.Ieee.{Float, nan, binary32, ofBits, add, sub, neg, lt, le}
-use lib.IntN.{ℤ, pos, negsuc, negℤ, natAbs, subℕ, _+ℤ_, _-ℤ_}
+use lib.IntN.{ℤ, pos, natAbs, _+ℤ_}
 use lib.ListN.{length, getD, take}
 use lib.Pow.{pow-pos}
 use lib.Seq.{take-nil}
-use Rattle.best_path.specs.Run.{traced}
+use Rattle.best_path.specs.Rows.{firstRows}
 use Rattle.best_path.specs.Path.{Total, none, total, wholes, added, isReached, larger, startedWhole}
-use Rattle.best_path.proofs.Simulation.{Simulates, mets-agree, traced-agree}
+use Rattle.best_path.proofs.Simulation.{Simulates, mets-agree, survivors-agree, traced-agree}
+use Rattle.best_path.proofs.Sizes.{abs-add}
 use Rattle.best_path.proofs.Start.{others-marked}
 use Rattle.correlation.specs.Decode as any
 use Rattle.correlation.specs.Gain.{correlation, brings, read0, read1, gain}
 use Rattle.correlation.specs.Whole.{whole, exactly}
+use Rattle.correlation.proofs.Sizes.{signedSum, correlation-size, gain-size}
 use Rattle.correlation.proofs.Surplus.{gain-taken}
 use Rattle.f32s.specs.Single.{zero32}
 use Rattle.f32s.specs.Whole.{Whole, floatOf}
@@ -30,7 +31,7 @@ use Rattle.f32s.proofs.Ordered.{lt-trans, lt-irrefl}
 use Rattle.f32s.proofs.Wholes.{whole-zero, whole-neg, whole-ofInt, whole-add, whole-sub, whole-lt, float-of-zero, ofInt-add}
 use Rattle.f32s.proofs.Wholes.{mark-lt-whole, whole-not-le-mark}
 use Rattle.butterflies.specs.Largest.{mark, largest}
-use Rattle.forward.specs.Decode.{mets, word, score}
+use Rattle.forward.specs.Decode.{mets, froms, word, score, filledRows}
 use Rattle.forward.specs.Sums.{floats, soft}
 use Rattle.trellis.specs.declared.ConvCode.{ConvCode}
 use Rattle.trellis.specs.Codeword.{stepsOf}
@@ -42,24 +43,6 @@ use Rattle.trellis.proofs.Places.{reading-received, reading-missing, reading-va
 use Rattle.best_word.specs.Wholes.{WholeReadings, absSum, IsTotal}
 
 -- ---- sizes
-
-abs-neg : (a : ℤ) → natAbs (negℤ a) ≡ natAbs a
-abs-neg (pos zero) = refl
-abs-neg (pos (suc n)) = refl
-abs-neg (negsuc n) = refl
-
-abs-difference : (a b : ℕ) → natAbs (subℕ a b) ≤ a + b
-abs-difference a b = go (ltb a b) refl
-  where
-    go : (u : Bool) → ltb a b ≡ u → natAbs (cond u (negsuc (b - suc a)) (pos (a - b))) ≤ a + b
-    go true h = omega (arith, ltb-true)
-    go false h = omega arith
-
-abs-add : (a b : ℤ) → natAbs (a +ℤ b) ≤ natAbs a + natAbs b
-abs-add (pos a) (pos b) = le-refl (a + b)
-abs-add (pos a) (negsuc b) = abs-difference a (suc b)
-abs-add (negsuc a) (pos b) = omega (arith, abs-difference b (suc a))
-abs-add (negsuc a) (negsuc b) = omega arith
 
 -- one number more; past the end it is 0
 abs-take-suc : (zs : List ℤ) (n : ℕ) → absSum (take (suc n) zs) ≡ absSum (take n zs) + natAbs (getD zs n (pos 0))
@@ -111,20 +94,6 @@ filled-whole {readings} {zs} are true n =
           rw (reading-received nan readings n (omega (arith, are .sized)), reading-received (pos 0) zs n h) (are .each n h)
       | no h ↦ rw (reading-missing readings n (omega (arith, are .sized)), reading-missing zs n (omega arith)) whole-zero
     ]
-
--- by which of the coded bits are 0
-abbrev pub signedSum : Bool → Bool → ℤ → ℤ → ℤ
-signedSum p q a b = cond p (cond q (a +ℤ b) (a -ℤ b)) (cond q (negℤ a +ℤ b) (negℤ a -ℤ b))
-
-correlation-size : (a b : ℤ) (c0 c1 : ℕ) → natAbs (correlation whole a b c0 c1) ≤ natAbs a + natAbs b
-unfolding correlation
-correlation-size a b c0 c1 = go (eqb c0 0) (eqb c1 0)
-  where
-    go : (p q : Bool) → natAbs (signedSum p q a b) ≤ natAbs a + natAbs b
-    go true true = abs-add a b
-    go true false = omega (arith, abs-add a (negℤ b), abs-neg b)
-    go false true = omega (arith, abs-add (negℤ a) b, abs-neg a)
-    go false false = omega (arith, abs-add (negℤ a) (negℤ b), abs-neg a, abs-neg b)
 
 correlation-whole :
     {x y : Float} {a b : ℤ} → Whole x a → Whole y b → natAbs a + natAbs b ≤ 2 ^ 24 → (c0 c1 : ℕ) →
@@ -209,10 +178,6 @@ module _
       subst (λ (g : ℕ → ℕ → Float). Whole (g s i) (gain whole code p zs t s i))
       (gain-taken floats code p good readings (codedLength p steps) t (coded-mono p good (suc t) steps h)) (used-gain-whole t s i)
 
-  gain-size : (t s i : ℕ) → natAbs (gain whole code p zs t s i) ≤ natAbs (read0 whole p zs t) + natAbs (read1 whole p zs t)
-  unfolding gain brings
-  gain-size t s i = correlation-size (read0 whole p zs t) (read1 whole p zs t) (c0 s i) (c1 s i)
-
   -- the old total is within what is read so far, so the sum is exact; and the old total is not -0, so neither is the sum
   total-added :
       (t s i : ℕ) → t < steps → (x : Float) (m : Total) → IsTotal (sizeRead p zs t) x m → not (le x mark) ≡ true →
@@ -220,7 +185,7 @@ module _
   total-added t s i within x none h reached = cc (total-reached (sizeRead p zs t) (read-small t) x none h)
   total-added t s i within x (total z) h reached =
       let size : natAbs (z +ℤ gain whole code p zs t s i) ≤ sizeRead p zs (suc t) =
-      omega (arith, h .1, abs-add z (gain whole code p zs t s i), gain-size t s i, size-read-suc p good zs t) in
+      omega (arith, h .1, abs-add z (gain whole code p zs t s i), gain-size code p zs t s i, size-read-suc p good zs t) in
       let summed : add binary32 (floatOf z) (gain floats code p readings t s i) ≡ floatOf (z +ℤ gain whole code p zs t s i) =
       ofInt-add binary32 z (omega (arith, h .1, read-small t)) (gain-whole t s i within) in
       (ap (λ (y : Float). add binary32 y (gain floats code p readings t s i)) (h .0) ∙ summed, size)
@@ -249,6 +214,10 @@ module _
       total-up (sizeRead p zs t) (absSum zs) (abs-take-le zs (codedLength p t)) (metAt t s) (totalAt t s)
       (mets-agree some simulated t s within h)
 
+  pub froms-whole : (t : ℕ) → t < steps → froms code p readings t ≡ any.froms exactly code p zs t
+  unfolding any.froms
+  froms-whole t h = survivors-agree some simulated t h
+
 -- ---- the answer
 
 module _
@@ -257,10 +226,20 @@ module _
   abbrev steps : ℕ
   steps = stepsOf code info
 
-  pub word-whole : word code p readings info ≡ take info (traced wholes code (any.froms exactly code p zs) (stepsOf code info) 0)
+  pub word-whole : word code p readings info ≡ any.word exactly code p zs info
   unfolding any.word any.froms
   word-whole =
       ap (take info) (traced-agree some (simulated code some p good readings zs steps are small) steps 0 (le-refl steps))
+
+  -- row by row
+  rows-up-to : (t : ℕ) → t ≤ steps → filledRows code p readings t ≡ any.filledRows exactly code p zs t
+  unfolding firstRows
+  rows-up-to zero h = refl
+  rows-up-to (suc t) h =
+      ap₂ _++_ (rows-up-to t (omega arith)) (froms-whole code some p good readings zs steps are small t h)
+
+  pub rows-whole : filledRows code p readings (stepsOf code info) ≡ any.filledRows exactly code p zs (stepsOf code info)
+  rows-whole = rows-up-to steps (le-refl steps)
 
   pub score-whole :
       (z : ℤ) → getD (any.mets exactly code p zs (stepsOf code info)) 0 none ≡ total z → score code p readings info ≡ floatOf z

@@ -11,10 +11,11 @@ use lib.IntN.{ℤ, pos, negℤ, _+ℤ_}
 use lib.ListN.{length, getD, take}
 use lib.Signed.{ltZ}
 use Rattle.best_path.specs.Path.{passes, Ahead}
+use Rattle.f32_answers.specs.Answer.{wordSaid}
+use Rattle.f32_answers.specs.declared.Decoded.{Decoded}
 use Rattle.f32s.specs.Whole.{floatOf}
 use Rattle.forward.specs.Decode.{word}
-use Rattle.refusal.specs.Answer.{accepted, refused, wordSaid}
-use Rattle.refusal.specs.declared.Decoded.{Decoded}
+use Rattle.refusal.specs.Answer.{accepted, refused}
 use Rattle.refusal.specs.Numbers.{badReading}
 use Rattle.trellis.specs.declared.ConvCode.{ConvCode}
 use Rattle.trellis.specs.Choice.{codeOf, patternOf}
@@ -53,13 +54,17 @@ module _ (code : ConvCode) (p : Keep) (info : ℕ) where
   abbrev pub statesOf : List ℕ → List ℕ
   statesOf u = passes code (zeroTailed code u) (stepsOf code info)
 
-  -- what is claimed of a word v and a score s that came of readings which are the whole numbers zs
-  pub record Claim (zs : List ℤ) (v : List ℕ) (s : Float) : Type 0 where
+  -- what is claimed of a word v for the whole numbers zs
+  pub record Wins (zs : List ℤ) (v : List ℕ) : Type 0 where
     pub is-word : InfoWord info v
     -- no equally long word's codeword agrees better
     pub wins : (u : List ℕ) → InfoWord info u → ltZ (scoreOf v zs) (scoreOf u zs) ≡ false
     -- among equals it is the one that the tie rule puts first
     pub first : (u : List ℕ) → InfoWord info u → scoreOf u zs ≡ scoreOf v zs → (v ≡ u) ⊎ Ahead (statesOf v) (statesOf u)
+
+  -- and of a word v and a score s that came of readings which are these
+  pub record Claim (zs : List ℤ) (v : List ℕ) (s : Float) : Type 0 where
+    pub best : Wins zs v
     -- the score is the f32 of that score, bit for bit: 0 is +0.0
     pub scored : s ≡ floatOf (scoreOf v zs)
     -- readings moved further towards the word leave it as it is

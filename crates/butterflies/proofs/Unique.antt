@@ -3,11 +3,11 @@
 use mathlib.Core.Path.{_≡_, sym, ap, ap₂, _∙_}
 use Prim.Native.Nat.{ℕ}
 use lib.Ieee.{Float}
-use Rattle.best_path.specs.declared.NewState.{NewState}
-use Rattle.best_path.specs.declared.Wing.{Wing}
 use Rattle.best_path.specs.Metric.{Metric}
-use Rattle.best_path.specs.Inner.{Winged}
 use Rattle.best_path.specs.Step.{Cell}
+use Rattle.butterflies.specs.declared.NewState.{NewState}
+use Rattle.butterflies.specs.declared.Wing.{Wing}
+use Rattle.butterflies.specs.Inner.{Winged}
 use Rattle.butterflies.proofs.largest.butterfly.Reads as butterfly-of-sums
 use Rattle.butterflies.proofs.largest.signed.Reads as signed
 use Rattle.butterflies.proofs.smallest.butterfly.Reads as butterfly-of-costs

@@ -3,11 +3,11 @@ ghost use mathlib.Core.Bool.{cond};
 ghost use mathlib.Core.Path.{_≡_};
 ghost use Prim.Native.Nat.{_+_, _<_};
 ghost use lib.Ieee.{nan, lt};
-ghost use Rattle.best_path.specs.Inner.{cellOf, Winged};
 ghost use Rattle.best_path.specs.Step.{unreached, chosen};
+ghost use Rattle.butterflies.specs.Inner.{cellOf, Winged};
 ghost use Rattle.butterflies.specs.Smallest.{smallest};
-use best_path::NewState;
-use best_path::Wing;
+use crate::NewState;
+use crate::Wing;
 
 // f32::MAX / 2: at or above it a state was not reached.
 pub const MARK: f32 = 1.70141173e38;

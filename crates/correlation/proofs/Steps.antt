@@ -204,7 +204,7 @@ module _
             of-b
             ∙ ap₂ reads second-kept (of-middle ∙ ap₂ (λ (n : ℕ) (k : Bool). n + one k) (now .behind) first-kept)
 
-        both-read : end ≡ codedLength p (t + 1)
+        pub both-read : end ≡ codedLength p (t + 1)
         both-read =
             omega (
               arith,

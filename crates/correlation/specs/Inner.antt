@@ -2,8 +2,9 @@
 use mathlib.Core.List.{List, _++_}
 use mathlib.Core.Logic.{_⊎_}
 use mathlib.Core.Path.{_≡_}
-use Prim.Native.Nat.{ℕ, _*_, _^_, _≤_, _<_}
+use Prim.Native.Nat.{ℕ, _-_, _*_, _^_, _≤_, _<_}
 use lib.ListN.{length, getD, drop}
+use Rattle.encoder.specs.Encode.{codedLengthOf}
 use Rattle.refusal.specs.Lent.{Lent}
 use Rattle.refusal.specs.Limits.{most}
 use Rattle.trellis.specs.declared.ConvCode.{ConvCode}
@@ -11,10 +12,12 @@ use Rattle.trellis.specs.declared.KeepPattern.{KeepPattern}
 use Rattle.trellis.specs.Choice.{k7, codeOf, patternOf}
 use Rattle.trellis.specs.Codeword.{stepsOf}
 use Rattle.trellis.specs.Keep.{Keep}
-use Rattle.trellis.specs.Inner.{Rows, Halved, Crossed}
+use Rattle.trellis.specs.Inner.{Chooses, Rows, Halved, Crossed}
 use Rattle.correlation.specs.Arithmetic.{Kind}
 use Rattle.correlation.specs.Gain.{newMets, newFroms}
 use Rattle.correlation.specs.Decode.{mets, word, score, filledRows}
+use Rattle.correlation.specs.Said.{callRefusal}
+use Rattle.correlation.specs.declared.Prepared.{Prepared}
 
 -- ---- one step
 
@@ -96,3 +99,13 @@ pub record UsedOf (need count used : ℕ) : Type 0 where
   pub short : count < need → used ≡ count
   pub enough : need ≤ count → used ≡ need
   pub few : used ≤ 65536
+
+-- ---- before the readings are looked at
+
+-- `prepare`: the number of the refusal that a call earns, what its numbers select, and where it earns none, how many of
+-- its `count` readings are used
+pub record Prepares (code rate info count room scratch : ℕ) (r : Prepared) : Type 0 where
+  pub decided : r .number ≡ callRefusal code rate info room scratch
+  pub chosen : Chooses code rate (r .chosen)
+  pub halved : r .half ≡ 2 ^ (r .chosen .code .width - 1)
+  pub used : r .number ≡ 0 → UsedOf (codedLengthOf code rate info) count (r .used)

@@ -1,9 +1,11 @@
 -- Of each door, any two outcomes that its contract allows are equal. `Post` is the contract as the prover reads it: of what
 -- the call is given, what it returns, and what it leaves in each argument. Assumes nothing.
 use Prim.Native.Nat.{ℕ}
-use Rattle.refusal.specs.Answer.{Numbers, ScoreNumbers}
+use Rattle.f32_answers.specs.Answer.{ScoreNumbers}
+use Rattle.f32_answers.proofs.Told.{score-numbers-tell}
+use Rattle.refusal.specs.Answer.{Numbers}
 use Rattle.refusal.proofs.Determined.{Once, OnceLeft, OnceBoth, writes-once, both-once}
-use Rattle.refusal.proofs.Told.{numbers-tell, score-numbers-tell}
+use Rattle.refusal.proofs.Told.{numbers-tell}
 use Rattle.doors.proofs.relay_conv_encode.Reads as relay-conv-encode
 use Rattle.doors.proofs.relay_encode.Reads as relay-encode
 use Rattle.doors.proofs.relay_coded_len.Reads as relay-coded-len

@@ -1,9 +1,12 @@
 // The functions for a host in Rust or C, on numbers and byte slices. Each returns one u64: the count
 // or the score's 32 bits, or on a refusal its number times 2^32 plus the place.
-ghost use Rattle.refusal.specs.Answer.{Numbers, ScoreNumbers};
+ghost use Rattle.f32_answers.specs.Answer.{ScoreNumbers};
+ghost use Rattle.refusal.specs.Answer.{Numbers};
 ghost use Rattle.refusal.specs.Lent.{lent};
 ghost use Rattle.encoder.specs.Promise.{Measures, Encodes, EncodesPlain};
 ghost use Rattle.readings.specs.Promise.{DecodesBytes};
+use f32_answers::word_number;
+use readings::viterbi_decode_bytes;
 
 // Plain K5 at rate 1/2, with no zeros added.
 #[no_mangle]
@@ -41,5 +44,5 @@ pub extern "C" fn relay_decode(
 ) -> u64
     ensures { λ r. ⌜ DecodesBytes (ScoreNumbers r) code rate info (now (readings .entry)) (lent out) (lent scratch) ⌝ }
 {
-    refusal::word_number(readings::viterbi_decode_bytes(code, readings, info, rate, out, scratch))
+    word_number(viterbi_decode_bytes(code, readings, info, rate, out, scratch))
 }

@@ -1,7 +1,6 @@
 // All steps of the block decoder of readings, from state 0: add, compare, select, with the survivors of each kept.
-ghost use mathlib.Core.Bool.{cond};
 ghost use mathlib.Core.Path.{_≡_};
-ghost use Prim.Native.Nat.{_+_, _*_, _<_};
+ghost use Prim.Native.Nat.{_*_};
 ghost use lib.Dec.{eqb};
 ghost use Rattle.correlation.specs.Inner.{Steppable, SteppableOf, Runnable};
 ghost use Rattle.refusal.specs.Lent.{lent};
@@ -84,14 +83,6 @@ fn value_at(column: u8, readings: &[f32], at: usize) -> f32
     0.0
 }
 
-// The number of the reading after that place.
-fn after(column: u8, at: usize) -> usize
-    requires { ⌜ at < 1048576 ⌝ }
-    ensures { λ r. ⌜ r ≡ at + cond (eqb column 1) 1 0 ⌝ }
-{
-    if column == 1 { at + 1 } else { at }
-}
-
 // All steps, from state 0. The survivors of each go to a row of rows; answers state 0's last metric.
 pub fn forward(
     code: ConvCode,
@@ -119,9 +110,9 @@ pub fn forward(
     let mut to = 0;
     for t in 0..steps {
         let a = value_at(row0[column], readings, at);
-        at = after(row0[column], at);
+        at = correlation::after(row0[column], at);
         let b = value_at(row1[column], readings, at);
-        at = after(row1[column], at);
+        at = correlation::after(row1[column], at);
         step_of(code, half, &c0, &c1, a, b, &pm, &mut next, &mut rows[to..]);
         pm = next;
         to += states;

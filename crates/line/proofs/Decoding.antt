@@ -18,10 +18,12 @@ use Rattle.encoder.proofs.Checks.{choice-refused, choice-passes, choice-passes-
 use Rattle.f32s.specs.Single.{allOfBytes}
 use Rattle.forward.specs.Decode.{word}
 use Rattle.forward.specs.Sums.{soft}
+use Rattle.correlation.specs.Said.{answered}
+use Rattle.f32_answers.specs.Answer.{wordSaid}
+use Rattle.f32_answers.specs.declared.Decoded.{Decoded}
+use Rattle.f32_answers.specs.declared.Decoded.the-variants as variants
 use Rattle.readings.specs.Said.{survivorsOf, decodeSaid}
-use Rattle.refusal.specs.Answer.{accepted, refused, wordSaid}
-use Rattle.refusal.specs.declared.Decoded.{Decoded}
-use Rattle.refusal.specs.declared.Decoded.the-variants as variants
+use Rattle.refusal.specs.Answer.{accepted, refused}
 use Rattle.refusal.specs.declared.Refusal.{Refusal}
 use Rattle.refusal.specs.Lent.{over, leaves}
 use Rattle.refusal.specs.Limits.{most}
@@ -90,7 +92,7 @@ module _ {input bytes : List ℕ} {number : ℕ} {answer : Decoded} (call : Call
 
   said-decoded :
       lineSaid input ≡ decodeSaid (codeIn input) (rateIn input) (infoIn input) (allOfBytes bytes) mostInfo mostSurvivors
-  unfolding lineSaid decodeSaid
+  unfolding lineSaid answered
   said-decoded =
       rw (
         call .choice .is,

@@ -3,9 +3,10 @@ use mathlib.Core.List.{List}
 use mathlib.Core.Path.{_≡_}
 use Prim.Native.Nat.{ℕ}
 use lib.Ieee.{Float}
-use Rattle.refusal.specs.declared.Decoded.{Decoded}
+use Rattle.f32_answers.specs.Answer.{wordSaid}
+use Rattle.f32_answers.specs.declared.Decoded.{Decoded}
 use Rattle.refusal.specs.declared.Refusal.{Refusal}
-use Rattle.refusal.specs.Answer.{Said, accepted, refused, wordSaid}
+use Rattle.refusal.specs.Answer.{Said, accepted, refused}
 use Rattle.line.specs.declared.Line.{Line}
 use Rattle.line.specs.Line.{lineOf}
 use Rattle.line.specs.Promise.{Prints}

@@ -7,7 +7,7 @@ ghost use Rattle.refusal.specs.Answer.{accepted};
 ghost use Rattle.line.specs.Line.{mostBytes, mostInfo, shaped};
 ghost use Rattle.line.specs.Promise.{AnswersInput};
 ghost use Rattle.line.specs.Inner.{refusalSaid, RefusalIn, PrintsAnswer};
-use refusal::Decoded;
+use f32_answers::Decoded;
 use refusal::Refusal;
 use text::put;
 use text::put_decimal;

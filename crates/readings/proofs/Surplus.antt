@@ -1,27 +1,25 @@
 -- Surplus readings have no part in an answer: cut off behind those that may be used, the readings give the same answer and leave
 -- the same buffers. Assumes nothing.
-use mathlib.Core.Bool.{Bool, true, false, not}
 use mathlib.Core.List.{List, _++_}
-use mathlib.Core.Path.{_≡_, refl, sym, ap, _∙_}
-use Prim.Native.Nat.{ℕ, _≤_, _<_}
-use native.Mathlib.Decide.{decLt}
+use mathlib.Core.Path.{_≡_, sym, ap, _∙_}
+use Prim.Native.Nat.{ℕ, _≤_}
 use native.Mathlib.Nat.{le-refl}
 use native.Mathlib.Omega.{arith}
-use borrow.Author.Tests.{lt-ltb}
 use lib.Ieee.{Float}
 use lib.ListN.{length, take, drop, replicate, length-append, length-replicate}
 use lib.Seq.{take-take, take-at}
+use Rattle.correlation.proofs.Limit.{limit-answers, limit-leaves}
 use Rattle.correlation.proofs.Surplus.{rows-taken, word-taken, score-taken}
 use Rattle.correlation.proofs.Used.{length-few}
 use Rattle.encoder.specs.Encode.{codedLengthOf}
-use Rattle.f32s.specs.Single.{zero32}
+use Rattle.f32s.specs.Single.{zero32, finite}
 use Rattle.forward.specs.Decode.{word, filledRows}
 use Rattle.forward.specs.Sums.{soft}
-use Rattle.refusal.specs.Answer.{Said, refused, refuseWhen}
+use Rattle.refusal.specs.Answer.{Said}
 use Rattle.refusal.specs.Limits.{most}
-use Rattle.refusal.specs.Numbers.{unknownCode, unknownRate, tooMany}
+use Rattle.refusal.specs.Numbers.{badReading}
 use Rattle.refusal.specs.Lent.{leaves, Lent}
-use Rattle.trellis.specs.Choice.{knownCode, codeOf, knownRate, patternOf}
+use Rattle.trellis.specs.Choice.{codeOf, patternOf}
 use Rattle.trellis.specs.Codeword.{stepsOf}
 use Rattle.trellis.proofs.Chosen.{rate-pattern}
 use Rattle.readings.specs.Promise.{Decodes}
@@ -29,61 +27,40 @@ use Rattle.readings.specs.Said.{mostReadings, decodeSaid}
 
 -- ---- by the numbers of the code and the rate
 
--- a call that is refused with 3 at the latest leaves nothing new, whether or not its code and rate are known
-refused-leaves :
-    (a b : Bool) (new old : List ℕ) →
-    leaves {A = Float} (refuseWhen a unknownCode (refuseWhen b unknownRate (refused tooMany 0))) new old ≡ old
-refused-leaves true b new old = refl
-refused-leaves false true new old = refl
-refused-leaves false false new old = refl
-
 module _ (code rate info : ℕ) (readings : List Float) (room scratch n : ℕ) (enough : mostReadings ≤ n) where
   within : info ≤ most → codedLengthOf code rate info ≤ n
   within h = omega (arith, length-few code rate info h)
 
-  pub surplus-said : decodeSaid code rate info (take n readings) room scratch ≡ decodeSaid code rate info readings room scratch
-  unfolding decodeSaid
-  surplus-said =
-      elim (decLt most info) [
-        | yes many ↦ rw (lt-ltb most info many)
-        | no few ↦
-            rw (
-              take-take (codedLengthOf code rate info) n readings (within (omega arith)),
-              score-taken soft (codeOf code) (patternOf code rate) (rate-pattern code rate) readings n info (within (omega arith)),
-            )
-      ]
+  abbrev said : Said Float
+  said = decodeSaid code rate info readings room scratch
 
-  -- past the limit on info nothing is written
-  many-leave : most < info → (new old : List ℕ) → leaves (decodeSaid code rate info readings room scratch) new old ≡ old
-  unfolding decodeSaid
-  many-leave h new old = rw (lt-ltb most info h) (refused-leaves (not (knownCode code)) (not (knownRate code rate)) new old)
+  abbrev said-of-front : Said Float
+  said-of-front = decodeSaid code rate info (take n readings) room scratch
+
+  pub surplus-said : said-of-front ≡ said
+  surplus-said =
+      limit-answers badReading finite code rate info room scratch (take n readings) readings _ _
+      (λ h. take-take (codedLengthOf code rate info) n readings (within h))
+      (λ h. score-taken soft (codeOf code) (patternOf code rate) (rate-pattern code rate) readings n info (within h))
 
   -- so what a call would write has to be the same up to the limit only
   surplus-leaves :
-      (new other old : List ℕ) → (info ≤ most → new ≡ other) →
-      leaves (decodeSaid code rate info (take n readings) room scratch) new old
-      ≡ leaves (decodeSaid code rate info readings room scratch) other old
+      (new other old : List ℕ) → (info ≤ most → new ≡ other) → leaves said-of-front new old ≡ leaves said other old
   surplus-leaves new other old same =
-      rw surplus-said
-      (elim (decLt most info) [
-        | yes many ↦ many-leave many new old ∙ sym (many-leave many other old)
-        | no few ↦ ap (λ (l : List ℕ). leaves (decodeSaid code rate info readings room scratch) l old) (same (omega arith))
-      ])
+      ap (λ (s : Said Float). leaves s new old) surplus-said
+      ∙ limit-leaves badReading finite code rate info room scratch readings _ new other old same
 
   pub surplus-output :
       (old : List ℕ) →
-      leaves (decodeSaid code rate info (take n readings) room scratch) (word (codeOf code) (patternOf code rate) (take n readings) info)
-      old
-      ≡ leaves (decodeSaid code rate info readings room scratch) (word (codeOf code) (patternOf code rate) readings info) old
+      leaves said-of-front (word (codeOf code) (patternOf code rate) (take n readings) info) old
+      ≡ leaves said (word (codeOf code) (patternOf code rate) readings info) old
   surplus-output old =
       surplus-leaves _ _ old (λ h. word-taken soft (codeOf code) (patternOf code rate) (rate-pattern code rate) readings n info (within h))
 
   pub surplus-scratch :
       (old : List ℕ) →
-      leaves (decodeSaid code rate info (take n readings) room scratch)
-      (filledRows (codeOf code) (patternOf code rate) (take n readings) (stepsOf (codeOf code) info)) old
-      ≡ leaves (decodeSaid code rate info readings room scratch)
-      (filledRows (codeOf code) (patternOf code rate) readings (stepsOf (codeOf code) info)) old
+      leaves said-of-front (filledRows (codeOf code) (patternOf code rate) (take n readings) (stepsOf (codeOf code) info)) old
+      ≡ leaves said (filledRows (codeOf code) (patternOf code rate) readings (stepsOf (codeOf code) info)) old
   surplus-scratch old =
       let steps = stepsOf (codeOf code) info in
       surplus-leaves _ _ old (λ h. rows-taken soft (codeOf code) (patternOf code rate) (rate-pattern code rate) readings n steps (within h))

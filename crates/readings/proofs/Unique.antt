@@ -1,8 +1,8 @@
 -- Of each entry, any two outcomes that its contract allows are equal. `Post` is the contract as the prover reads it: of what
 -- the call is given, what it returns, and what it leaves in each argument. Assumes nothing.
-use Rattle.refusal.specs.Answer.{Scores}
+use Rattle.f32_answers.specs.Answer.{Scores}
+use Rattle.f32_answers.proofs.Told.{scores-tell}
 use Rattle.refusal.proofs.Determined.{OnceBoth, both-once}
-use Rattle.refusal.proofs.Told.{scores-tell}
 use Rattle.readings.proofs.viterbi_decode_soft_with.Reads as viterbi-decode-soft-with
 use Rattle.readings.proofs.viterbi_decode_bytes.Reads as viterbi-decode-bytes
 

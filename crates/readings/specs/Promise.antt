@@ -4,20 +4,18 @@ use mathlib.Core.List.{List}
 use Prim.Native.Nat.{ℕ}
 use lib.Ieee.{Float}
 use lib.ListN.{length}
+use Rattle.correlation.specs.Promise as any
 use Rattle.f32s.specs.Single.{allOfBytes}
-use Rattle.forward.specs.Decode.{word, filledRows}
+use Rattle.forward.specs.Sums.{soft}
 use Rattle.refusal.specs.Answer.{Said}
-use Rattle.refusal.specs.Lent.{Lent, WritesBoth}
-use Rattle.trellis.specs.Choice.{codeOf, patternOf}
-use Rattle.trellis.specs.Codeword.{stepsOf}
+use Rattle.refusal.specs.Lent.{Lent}
 use Rattle.readings.specs.Said.{decodeSaid}
 
 -- `viterbi_decode_soft_with`: the word goes to `out`, the survivor numbers of all steps to `scratch`
 abbrev pub Decodes : (Said Float → Type 0) → (code rate info : ℕ) → List Float → (out scratch : Lent ℕ) → Type 0
 Decodes Answers code rate info readings out scratch =
-    WritesBoth Answers (decodeSaid code rate info readings (length (out .given)) (length (scratch .given)))
-    (word (codeOf code) (patternOf code rate) readings info) out
-    (filledRows (codeOf code) (patternOf code rate) readings (stepsOf (codeOf code) info)) scratch
+    any.Decodes soft Answers (decodeSaid code rate info readings (length (out .given)) (length (scratch .given)))
+    code rate info readings out scratch
 
 -- `viterbi_decode_bytes`: the same of readings as four bytes each, low first
 abbrev pub DecodesBytes :

@@ -1,16 +1,15 @@
 // The block decoder of readings: what it refuses, and which code and keep pattern it runs.
 ghost use mathlib.Core.Path.{_≡_};
-ghost use Prim.Native.Nat.{_-_, _*_, _^_};
-ghost use Rattle.correlation.specs.Inner.{Decodable, Usable, UsedOf};
-ghost use Rattle.refusal.specs.Answer.{Scores, wordSaid, refused};
+ghost use Prim.Native.Nat.{_*_};
+ghost use Rattle.correlation.specs.Inner.{Decodable};
+ghost use Rattle.f32_answers.specs.Answer.{Scores, wordSaid};
+ghost use Rattle.refusal.specs.Answer.{refused};
 ghost use Rattle.refusal.specs.Lent.{lent};
 ghost use Rattle.trellis.specs.Choice.{keepOf};
-ghost use Rattle.trellis.specs.Keep.{codedLength};
-ghost use Rattle.trellis.specs.Inner.{Narrow};
 ghost use Rattle.readings.specs.Inner.{Finds};
 ghost use Rattle.readings.specs.Promise.{Decodes, DecodesBytes};
+use f32_answers::Decoded;
 use forward::forward;
-use refusal::Decoded;
 use refusal::Refusal;
 use trellis::ConvCode;
 use trellis::KeepPattern;
@@ -35,15 +34,6 @@ fn decode(
     score
 }
 
-// Half of the code's states.
-fn half_of(code: ConvCode) -> usize
-    requires { ⌜ Narrow code ⌝ }
-    ensures { λ r. ⌜ r ≡ 2 ^ (code .width - 1) ⌝ }
-{
-    let one: usize = 1;
-    one << (code.width - 1)
-}
-
 // The refusal of a call whose answer is a word.
 fn no_word(number: u8, place: u32) -> Decoded
     ensures { λ r. ⌜ wordSaid r ≡ refused number place ⌝ }
@@ -62,24 +52,16 @@ pub fn viterbi_decode_soft_with(
 ) -> Decoded
     ensures { λ r. ⌜ Decodes (Scores r) code rate info (now (readings .entry)) (lent out) (lent scratch) ⌝ }
 {
-    let number = encoder::refused_choice(code, rate, info, refusal::MOST);
-    if number != 0 {
-        return no_word(number, 0);
+    let ready = correlation::prepare(code, rate, info, readings.len(), out.len(), scratch.len());
+    if ready.number != 0 {
+        return no_word(ready.number, 0);
     }
-    if out.len() < info {
-        return no_word(refusal::SHORT_OUTPUT, 0);
-    }
-    let chosen = trellis::choose(code, rate);
-    let half = half_of(chosen.code);
-    let steps = info + chosen.code.width;
-    if scratch.len() < steps * (2 * half) {
-        return no_word(refusal::SHORT_SCRATCH, 0);
-    }
-    let used = used_of(chosen.keep, steps, readings.len());
-    let bad = refusal::first_bad(&readings[..used]);
-    if bad < used {
+    let bad = f32_answers::first_bad(&readings[..ready.used]);
+    if bad < ready.used {
         return no_word(refusal::BAD_READING, bad as u32);
     }
+    let chosen = ready.chosen;
+    let half = ready.half;
     let score = decode(chosen.code, half, chosen.keep, readings, info, out, scratch);
     Decoded::Word(score)
 }
@@ -101,13 +83,4 @@ pub fn viterbi_decode_bytes(
     let mut values = [0.0; MOST_READINGS];
     let count = f32s::from_all_bytes(bytes, &mut values[..]);
     viterbi_decode_soft_with(code, &values[..count], info, rate, out, scratch)
-}
-
-// How many readings are used, of those that there are.
-fn used_of(keep: KeepPattern, steps: usize, count: usize) -> usize
-    requires { ⌜ Usable keep steps ⌝ }
-    ensures { λ r. ⌜ UsedOf (codedLength (keepOf keep) steps) count r ⌝ }
-{
-    let coded = trellis::coded_len(keep, steps);
-    if count < coded { count } else { coded }
 }

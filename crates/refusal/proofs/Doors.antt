@@ -7,9 +7,8 @@ use native.Mathlib.Omega.{arith}
 use borrow.Author.Tests.{lt-ltb, le-ltb, ltb-true}
 use lib.Arith.{digits-div, digits-mod}
 use lib.Dec.{ltb}
-use lib.Ieee.{Float, binary32, toBits}
 use lib.ListN.{length}
-use Rattle.refusal.specs.Answer.{Said, accepted, refused, refuseWhen, scoreBits, doorNumber, doorRead}
+use Rattle.refusal.specs.Answer.{Said, accepted, refused, refuseWhen, saidAs, doorNumber, doorRead}
 use Rattle.refusal.specs.First.{firstBad, refuseAtBad}
 
 -- an answer whose two kinds a door's number keeps apart: its value is below 2^32, or the refusal's number is above 0 and its
@@ -25,14 +24,15 @@ count-tells (accepted n) (small h) =
 count-tells (refused number place) (numbered some low) =
     rw (le-ltb (number * 2 ^ 32 + place) (2 ^ 32) (omega arith)) (ap₂ refused (digits-div number low) (digits-mod number low))
 
-bits-cross : (s : Said Float) → Crosses (toBits binary32) s → Crosses (λ n. n) (scoreBits s)
-bits-cross (accepted x) (small h) = small h
-bits-cross (refused number place) (numbered some low) = numbered some low
-
-pub score-tells : (s : Said Float) → Crosses (toBits binary32) s → doorRead (doorNumber (scoreBits s)) ≡ scoreBits s
-score-tells s crosses = count-tells (scoreBits s) (bits-cross s crosses)
-
+-- an answer whose value crosses as a number
 module _ {A : Type 0} (value : A → ℕ) where
+  value-crosses : (s : Said A) → Crosses value s → Crosses (λ n. n) (saidAs value s)
+  value-crosses (accepted x) (small h) = small h
+  value-crosses (refused number place) (numbered some low) = numbered some low
+
+  pub value-tells : (s : Said A) → Crosses value s → doorRead (doorNumber (saidAs value s)) ≡ saidAs value s
+  value-tells s crosses = count-tells (saidAs value s) (value-crosses s crosses)
+
   -- a refusal at place 0 crosses; what comes after it counts only where there is none
   pub crosses-unless :
       (test : Bool) (number : ℕ) (rest : Said A) → 0 < number → (test ≡ false → Crosses value rest) →
@@ -42,9 +42,9 @@ module _ {A : Type 0} (value : A → ℕ) where
 
   -- so does one at the first bad value, where there are fewer than 2^32 values
   pub crosses-at-bad :
-      (number : ℕ) (is-good : Float → Bool) (xs : List Float) (rest : Said A) →
+      {E : Type 0} (number : ℕ) (is-good : E → Bool) (xs : List E) (rest : Said A) →
       0 < number → length xs < 2 ^ 32 → Crosses value rest → Crosses value (refuseAtBad number is-good xs rest)
-  crosses-at-bad number is-good xs rest some few later = go (ltb (firstBad is-good xs) (length xs)) refl
+  crosses-at-bad {E} number is-good xs rest some few later = go (ltb (firstBad is-good xs) (length xs)) refl
     where
       go :
           (test : Bool) → ltb (firstBad is-good xs) (length xs) ≡ test →

@@ -3,13 +3,11 @@
 use mathlib.Core.Bool.{Bool, true, false}
 use mathlib.Core.Path.{_≡_, refl, sym, ap, ap₂, _∙_}
 use Prim.Native.Nat.{ℕ}
-use Rattle.refusal.specs.Answer.{Said, accepted, refused, refuseWhen, countSaid, wordSaid, doneSaid}
-use Rattle.refusal.specs.Answer.{Counts, Numbers, Scores, ScoreNumbers}
+use Rattle.refusal.specs.Answer.{Said, accepted, refused, refuseWhen, countSaid, doneSaid}
+use Rattle.refusal.specs.Answer.{Counts, Numbers}
 use Rattle.refusal.specs.declared.Refusal.{Refusal}
 use Rattle.refusal.specs.declared.Counted.{Counted}
 use Rattle.refusal.specs.declared.Counted.the-variants as counted
-use Rattle.refusal.specs.declared.Decoded.{Decoded}
-use Rattle.refusal.specs.declared.Decoded.the-variants as decoded
 use Rattle.refusal.specs.declared.Put.{Put}
 use Rattle.refusal.specs.declared.Put.the-variants as put
 use Rattle.refusal.proofs.Determined.{Telling}
@@ -26,12 +24,6 @@ count-told (counted.Count m) (counted.Refused r) e = cc
 count-told (counted.Refused q) (counted.Count n) e = cc
 count-told (counted.Refused q) (counted.Refused r) e = ap counted.Refused (same-refusal q r (cc) (cc))
 
-pub word-told : (a b : Decoded) → wordSaid a ≡ wordSaid b → a ≡ b
-word-told (decoded.Word m) (decoded.Word n) e = cc
-word-told (decoded.Word m) (decoded.Refused r) e = cc
-word-told (decoded.Refused q) (decoded.Word n) e = cc
-word-told (decoded.Refused q) (decoded.Refused r) e = ap decoded.Refused (same-refusal q r (cc) (cc))
-
 pub done-told : (a b : Put) → doneSaid a ≡ doneSaid b → a ≡ b
 done-told put.Done put.Done e = cc
 done-told put.Done (put.Refused r) e = cc
@@ -45,12 +37,6 @@ counts-tell said r r' p q = count-told r r' (p ∙ sym q)
 
 pub numbers-tell : Telling Numbers
 numbers-tell said r r' p q = p ∙ sym q
-
-pub scores-tell : Telling Scores
-scores-tell said r r' p q = word-told r r' (p ∙ sym q)
-
-pub score-numbers-tell : Telling ScoreNumbers
-score-numbers-tell said r r' p q = p ∙ sym q
 
 -- ---- what is accepted
 

@@ -8,10 +8,8 @@ use Rattle.refusal.proofs.Determined.{Once}
 use Rattle.refusal.proofs.Told.{done-told, counts-tell, numbers-tell}
 use Rattle.refusal.proofs.no_count.Reads as no-count
 use Rattle.refusal.proofs.not_done.Reads as not-done
+use Rattle.refusal.proofs.refused_number.Reads as refused-number
 use Rattle.refusal.proofs.count_number.Reads as count-number
-use Rattle.refusal.proofs.word_number.Reads as word-number
-use Rattle.refusal.proofs.first_bad.Reads as first-bad
-use Rattle.refusal.proofs.first_beyond.Reads as first-beyond
 
 pub no-count-once : (κs number : _) → Once (λ (r : Counted). no-count.Post κs (number, tt) r (number, tt))
 no-count-once κs number = counts-tell _
@@ -19,14 +17,8 @@ no-count-once κs number = counts-tell _
 pub not-done-once : (κs number : _) → Once (λ (r : Put). not-done.Post κs (number, tt) r (number, tt))
 not-done-once κs number r r' p q = done-told r r' (p ∙ sym q)
 
+pub refused-number-once : (κs refusal : _) → Once (λ (r : ℕ). refused-number.Post κs (refusal, tt) r (refusal, tt))
+refused-number-once κs refusal = numbers-tell _
+
 pub count-number-once : (κs answer : _) → Once (λ (r : ℕ). count-number.Post κs (answer, tt) r (answer, tt))
 count-number-once κs answer = numbers-tell _
-
-pub word-number-once : (κs answer : _) → Once (λ (r : ℕ). word-number.Post κs (answer, tt) r (answer, tt))
-word-number-once κs answer r r' p q = p ∙ sym q
-
-pub first-bad-once : (κs readings : _) → Once (λ (r : ℕ). first-bad.Post κs (readings, tt) r (readings, tt))
-first-bad-once κs readings r r' p q = p ∙ sym q
-
-pub first-beyond-once : (κs components : _) → Once (λ (r : ℕ). first-beyond.Post κs (components, tt) r (components, tt))
-first-beyond-once κs components r r' p q = p ∙ sym q

@@ -4,11 +4,8 @@ use mathlib.Core.Bool.{Bool, true, false, cond}
 use mathlib.Core.Path.{_≡_}
 use Prim.Native.Nat.{ℕ, _+_, _*_, _/_, _%_, _^_}
 use lib.Dec.{ltb}
-use lib.Ieee.{Float, binary32, toBits}
 use Rattle.refusal.specs.declared.Counted.{Counted}
 use Rattle.refusal.specs.declared.Counted.the-variants as counted
-use Rattle.refusal.specs.declared.Decoded.{Decoded}
-use Rattle.refusal.specs.declared.Decoded.the-variants as decoded
 use Rattle.refusal.specs.declared.Put.{Put}
 use Rattle.refusal.specs.declared.Put.the-variants as put
 
@@ -21,11 +18,6 @@ abbrev pub countSaid : Counted → Said ℕ
 countSaid (counted.Count n) = accepted n
 countSaid (counted.Refused r) = refused (r .number) (r .place)
 
--- the winning score, or the refusal's number and place
-abbrev pub wordSaid : Decoded → Said Float
-wordSaid (decoded.Word score) = accepted score
-wordSaid (decoded.Refused r) = refused (r .number) (r .place)
-
 -- nothing but that it is done, or the refusal's number and place
 abbrev pub doneSaid : Put → Said Unit
 doneSaid put.Done = accepted tt
@@ -37,10 +29,10 @@ abbrev pub refuseWhen : {A : Type 0} → Bool → ℕ → Said A → Said A
 refuseWhen true number rest = refused number 0
 refuseWhen false number rest = rest
 
--- a word's answer with its score's 32 bits
-abbrev pub scoreBits : Said Float → Said ℕ
-scoreBits (accepted score) = accepted (toBits binary32 score)
-scoreBits (refused number place) = refused number place
+-- an answer with its value told in another way
+abbrev pub saidAs : {A B : Type 0} → (A → B) → Said A → Said B
+saidAs value (accepted a) = accepted (value a)
+saidAs value (refused number place) = refused number place
 
 -- An answer as the one number that a door returns: the count or the score's bits, or on a refusal its number times 2^32
 -- plus the place.
@@ -59,9 +51,3 @@ Counts r said = countSaid r ≡ said
 
 abbrev pub Numbers : ℕ → Said ℕ → Type 0
 Numbers r said = r ≡ doorNumber said
-
-abbrev pub Scores : Decoded → Said Float → Type 0
-Scores r said = wordSaid r ≡ said
-
-abbrev pub ScoreNumbers : ℕ → Said Float → Type 0
-ScoreNumbers r said = r ≡ doorNumber (scoreBits said)

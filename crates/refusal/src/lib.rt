@@ -1,10 +1,7 @@
-// What an entry answers: its value, or a refusal with document 01's number and a place; and the place of refusals 6
-// and 7.
+// What an entry answers: its value, or a refusal with document 01's number and a place. Nothing of it has a float;
+// answers with a score in f32 are in crate `f32_answers`.
 ghost use mathlib.Core.Path.{_≡_};
-ghost use Rattle.refusal.specs.Answer.{countSaid, wordSaid, doneSaid, refused};
-ghost use Rattle.refusal.specs.Answer.{Counts, Numbers, ScoreNumbers};
-ghost use Rattle.refusal.specs.First.{firstBad};
-ghost use Rattle.f32s.specs.Single.{finite, within};
+ghost use Rattle.refusal.specs.Answer.{countSaid, doneSaid, refused, Counts, Numbers};
 
 // The most info bits or symbols that one call may bring.
 pub const MOST: usize = 4096;
@@ -57,13 +54,6 @@ pub enum Counted {
     Refused(Refusal),
 }
 
-// The answer of the block decoder of readings: the word stands in the lent output, and its score is
-// carried here; or a refusal.
-pub enum Decoded {
-    Word(f32),
-    Refused(Refusal),
-}
-
 // The answer of a call that only changes a state: it is done, or a refusal.
 pub enum Put {
     Done,
@@ -85,7 +75,7 @@ pub fn not_done(number: u8) -> Put
 }
 
 // A refusal as the one number that a door returns.
-fn refused_number(r: Refusal) -> u64
+pub fn refused_number(r: Refusal) -> u64
     ensures { λ n. ⌜ Numbers n (refused (r .number) (r .place)) ⌝ }
 {
     (r.number as u64) * 0x1_0000_0000 + (r.place as u64)
@@ -99,43 +89,4 @@ pub fn count_number(answer: Counted) -> u64
         Counted::Count(n) => n as u64,
         Counted::Refused(r) => refused_number(r),
     }
-}
-
-// A word's answer as that number.
-pub fn word_number(answer: Decoded) -> u64
-    ensures { λ r. ⌜ ScoreNumbers r (wordSaid answer) ⌝ }
-{
-    match answer {
-        Decoded::Word(score) => f32s::bits_of(score) as u64,
-        Decoded::Refused(r) => refused_number(r),
-    }
-}
-
-// The place of refusal 6: the index of the first reading that is NaN or infinite, and the length where none is.
-pub fn first_bad(readings: &[f32]) -> usize
-    ensures { λ r. ⌜ r ≡ firstBad finite (now (readings .entry)) ⌝ }
-{
-    let used = readings.len();
-    for i in 0..used {
-        let good = f32s::is_finite(readings[i]);
-        if !good {
-            return i;
-        }
-    }
-    used
-}
-
-// The place of refusal 7: the index of the first component that is NaN or beyond ±1,024, and the length where none
-// is.
-pub fn first_beyond(components: &[f32]) -> usize
-    ensures { λ r. ⌜ r ≡ firstBad within (now (components .entry)) ⌝ }
-{
-    let count = components.len();
-    for at in 0..count {
-        let inside = f32s::within(components[at]);
-        if !inside {
-            return at;
-        }
-    }
-    count
 }

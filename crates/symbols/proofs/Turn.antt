@@ -6,8 +6,8 @@ use Prim.Native.Nat.{ℕ, _+_, _*_, _^_, _≤_, _<_}
 use native.Mathlib.Omega.{arith}
 use lib.Ieee.{Float, nan}
 use lib.ListN.{length, getD, set, drop-of-length-le}
-use Rattle.best_path.specs.declared.Wing.{Wing}
-use Rattle.best_path.specs.Inner.{Winged}
+use Rattle.butterflies.specs.declared.Wing.{Wing}
+use Rattle.butterflies.specs.Inner.{Winged}
 use Rattle.best_path.proofs.Turns.{Paired, paired-starts, paired-mets, paired-froms, paired-goes-on}
 use Rattle.trellis.specs.declared.ConvCode.{ConvCode}
 use Rattle.trellis.specs.Inner.{Crossed}

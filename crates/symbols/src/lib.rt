@@ -39,7 +39,7 @@ pub fn viterbi_decode(soft: &[f32], out: &mut [u8], scratch: &mut [u8]) -> Count
         return refusal::no_count(refusal::SHORT_SCRATCH);
     }
     let used = 2 * count;
-    let bad = refusal::first_beyond(&soft[..used]);
+    let bad = f32_answers::first_beyond(&soft[..used]);
     if bad < used {
         return Counted::Refused(Refusal {
             number: refusal::BAD_COMPONENT,

@@ -2,7 +2,8 @@
 use mathlib.Core.Path.{ap, _∙_}
 use borrow.Author.Needs.{needs}
 use lib.Ieee.{Float}
-use Rattle.refusal.specs.Answer.{Said, scoreBits, doorNumber}
+use Rattle.f32_answers.specs.Answer.{scoreBits}
+use Rattle.refusal.specs.Answer.{Said, doorNumber}
 use Rattle.doors.proofs.relay_decode.Statement.{statement}
 use Rattle.doors.proofs.relay_decode.Tie as tie
 

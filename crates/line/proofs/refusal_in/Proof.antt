@@ -1,8 +1,8 @@
 -- `line::refusal_in`: the answer's refusal as it stands. Assumes nothing.
 use mathlib.Core.Path.{sym, ap}
 use borrow.Author.Needs.{needs}
-use Rattle.refusal.specs.Answer.{wordSaid}
-use Rattle.refusal.specs.declared.Decoded.{Decoded}
+use Rattle.f32_answers.specs.Answer.{wordSaid}
+use Rattle.f32_answers.specs.declared.Decoded.{Decoded}
 use Rattle.line.specs.Inner.{refusalIn}
 use Rattle.line.proofs.refusal_in.Statement.{statement}
 use Rattle.line.proofs.refusal_in.Tie as tie

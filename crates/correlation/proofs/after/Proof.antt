@@ -1,9 +1,9 @@
--- `forward::after`: a column that is 1 keeps its place. Assumes nothing.
+-- `correlation::after`: a column that is 1 keeps its place. Assumes nothing.
 use native.Mathlib.Omega.{arith}
 use borrow.Author.Needs.{needs}
 use borrow.Author.Tests.{eq-eqb, ne-eqb}
-use Rattle.forward.proofs.after.Statement.{statement}
-use Rattle.forward.proofs.after.Tie as tie
+use Rattle.correlation.proofs.after.Statement.{statement}
+use Rattle.correlation.proofs.after.Tie as tie
 
 returns : tie.Need-returns
 returns c = rw (eq-eqb (c .before .args .column) 1 (c .if1 .taken))

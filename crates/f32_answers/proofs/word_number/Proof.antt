@@ -1,11 +1,12 @@
--- `refusal::word_number`: its two arms. Assumes nothing.
+-- `f32_answers::word_number`: its two arms. Assumes nothing.
 use mathlib.Core.Path.{sym, ap, _∙_}
 use Prim.Native.Nat.{ℕ}
 use borrow.Author.Needs.{needs}
-use Rattle.refusal.specs.declared.Decoded.{Decoded}
-use Rattle.refusal.specs.Answer.{wordSaid, scoreBits, doorNumber}
-use Rattle.refusal.proofs.word_number.Statement.{statement}
-use Rattle.refusal.proofs.word_number.Tie as tie
+use Rattle.f32_answers.specs.declared.Decoded.{Decoded}
+use Rattle.refusal.specs.Answer.{doorNumber}
+use Rattle.f32_answers.specs.Answer.{wordSaid, scoreBits}
+use Rattle.f32_answers.proofs.word_number.Statement.{statement}
+use Rattle.f32_answers.proofs.word_number.Tie as tie
 
 -- what a door answers of a word
 abbrev number : Decoded → ℕ

@@ -1,12 +1,12 @@
--- `refusal::first_beyond`: a search from the front. Assumes nothing.
+-- `f32_answers::first_beyond`: a search from the front. Assumes nothing.
 use Prim.Native.Nat.{_-_}
 use native.Mathlib.Omega.{arith}
 use borrow.Author.Needs.{needs}
 use lib.Ieee.{nan}
 use Rattle.f32s.specs.Single.{within}
 use Rattle.refusal.proofs.FirstBad.{Sought, sought-starts, none-found, found-here, sought-goes-on}
-use Rattle.refusal.proofs.first_beyond.Statement.{statement}
-use Rattle.refusal.proofs.first_beyond.Tie as tie
+use Rattle.f32_answers.proofs.first_beyond.Statement.{statement}
+use Rattle.f32_answers.proofs.first_beyond.Tie as tie
 
 abbrev Inv-loop : tie.InvT-loop
 Inv-loop components count at₀ at = Sought within components at

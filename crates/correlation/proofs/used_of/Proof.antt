@@ -1,8 +1,8 @@
--- `readings::used_of`: the coded length, or fewer where there are fewer. Assumes nothing.
+-- `correlation::used_of`: the coded length, or fewer where there are fewer. Assumes nothing.
 use native.Mathlib.Omega.{arith}
 use Rattle.correlation.proofs.Used.{usable-few, uses-all, uses-needed}
-use Rattle.readings.proofs.used_of.Statement.{statement}
-use Rattle.readings.proofs.used_of.Tie as tie
+use Rattle.correlation.proofs.used_of.Statement.{statement}
+use Rattle.correlation.proofs.used_of.Tie as tie
 
 coded-len-requires : tie.Need-coded-len-requires
 coded-len-requires c κs = record { rows = c .pre .pattern; few = omega arith }

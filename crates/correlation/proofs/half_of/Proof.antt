@@ -1,4 +1,4 @@
--- `readings::half_of`: 1 shifted is a power of two. Assumes nothing.
+-- `correlation::half_of`: 1 shifted is a power of two. Assumes nothing.
 use mathlib.Core.Path.{_∙_}
 use native.Mathlib.Nat.{one-mul}
 use native.Mathlib.Omega.{arith}
@@ -6,8 +6,8 @@ use borrow.Author.Needs.{needs}
 use Prim.Native.Nat.{_^_, _-_}
 use lib.Dec.{lit<}
 use lib.Pow.{shl-exact}
-use Rattle.readings.proofs.half_of.Statement.{statement}
-use Rattle.readings.proofs.half_of.Tie as tie
+use Rattle.correlation.proofs.half_of.Statement.{statement}
+use Rattle.correlation.proofs.half_of.Tie as tie
 
 returns : tie.Need-returns
 returns c =
