@@ -1,5 +1,8 @@
-/* The relay coder's doors for C and C++: the proved encoders, the coded length and the block decoder of readings. Link
- * with target/native/libdoors.a, which `tools/native staticlib doors` makes. examples/c/decode.c shows a use.
+/* The relay coder's doors for C and C++: the proved encoders, the coded length and the two block decoders of readings,
+ * of floats and of signed bytes. All but relay_decode_signed are in target/native/libdoors.a, which
+ * `tools/native staticlib doors` makes; examples/c/decode.c shows a use. relay_decode_signed is in
+ * target/native/libradio.a, which `tools/native staticlib radio` makes. That archive needs no other and has no float
+ * instruction, for processors without floats; examples/c/decode_signed.c shows a use.
  *
  * Numbers and bytes:
  *   code     0: K = 5
@@ -24,13 +27,14 @@
  *   4   out is shorter than needed
  *   5   scratch is shorter than needed
  *   6   a used reading is NaN or infinite; the place is the index of the first one, counted in readings
+ *   12  a used signed byte is -128; the place is the index of the first one
  *
- * Where several apply the lowest is given. The place is 0 but for 6. A refusal changes no byte.
+ * Where several apply the lowest is given. The place is 0 but for 6 and 12. A refusal changes no byte.
  *
  * An accepted call writes the front of out and scratch, as said below, and leaves what lies beyond as it was. Nothing
  * has to be cleared before. A longer buffer than needed is no refusal. No two buffers of a call may overlap, and each
  * must have the length given: a door cannot test these. A pointer may be null where the length is 0. The doors keep no
- * state and take no memory but the stack, relay_decode some 34 kB of it.
+ * state and take no memory but the stack, relay_decode some 34 kB of it, relay_decode_signed some 1 kB.
  */
 #ifndef RELAY_H
 #define RELAY_H
@@ -65,6 +69,18 @@ uint64_t relay_coded_len(uint8_t code, uint8_t rate, size_t info);
  * the word's coded bits are 0, less those where they are 1. Refusals 1 to 6. */
 uint64_t relay_decode(uint8_t code, uint8_t rate, size_t info, const uint8_t *readings, size_t readings_len,
                       uint8_t *out, size_t out_len, uint8_t *scratch, size_t scratch_len);
+
+/* The same of readings that are signed bytes, in whole numbers: of libradio.a, where no float is.
+ *
+ * A reading is one byte from -127 to 127; -128 is refused where it is used. Those missing at the end count as 0; those
+ * beyond the coded length are neither used nor examined. That the word is the best is proved for every list of
+ * readings.
+ *
+ * out and scratch are as for relay_decode. Answers the score's 32 bits in two's complement:
+ * (int32_t)(uint32_t)answer. The word and the survivors are those that relay_decode gives for the same numbers as
+ * floats, and its score is this one as a float. Refusals 1 to 5 and 12. */
+uint64_t relay_decode_signed(uint8_t code, uint8_t rate, size_t info, const int8_t *readings, size_t readings_len,
+                             uint8_t *out, size_t out_len, uint8_t *scratch, size_t scratch_len);
 
 #ifdef __cplusplus
 }

@@ -46,11 +46,9 @@ pub fn scratch_len(code: Code, info: usize) -> usize {
 /// assert_eq!(refusal.to_string(), "refused 6 at 1");
 /// ```
 pub fn decode(code: Code, rate: Rate, info: usize, readings: &[f32]) -> Result<Word, Refusal> {
-    // Beyond the limit the door refuses whatever the room; so none is taken for it.
-    let room = info.min(INFO_LIMIT);
-    let mut bits = vec![0; room];
-    let mut scratch = vec![0; scratch_len(code, room)];
-    let score = decode_into(code, rate, info, readings, &mut bits, &mut scratch)?;
+    let (bits, score) = with_buffers(code, info, |out, scratch| {
+        decode_into(code, rate, info, readings, out, scratch)
+    })?;
     Ok(Word { bits, score })
 }
 
@@ -76,4 +74,17 @@ pub fn decode_into(
 ) -> Result<f32, Refusal> {
     let readings = slices::bytes_of(readings);
     score(doors::decode(code as u8, rate as u8, info, readings, out, scratch))
+}
+
+/// Lends new buffers, just long enough for `info` bits, to a decoding: the bits that it writes, and what it gives.
+pub(crate) fn with_buffers<S>(
+    code: Code,
+    info: usize,
+    decoding: impl FnOnce(&mut [u8], &mut [u8]) -> Result<S, Refusal>,
+) -> Result<(Vec<u8>, S), Refusal> {
+    // Beyond the limit the door refuses whatever the room; so none is taken for it.
+    let room = info.min(INFO_LIMIT);
+    let mut bits = vec![0; room];
+    let score = decoding(&mut bits, &mut vec![0; scratch_len(code, room)])?;
+    Ok((bits, score))
 }

@@ -1,7 +1,8 @@
 //! The relay coder for a Rust host: safe functions over the doors of the proved code.
 //!
-//! The encoders, the coded length and the block decoder take a [`Code`] and a [`Rate`], and give a result or the
-//! [`Refusal`] that document 01 names. [`doors`] has the same entries with 01's bare numbers.
+//! The encoders, the coded length and the two block decoders take a [`Code`] and a [`Rate`], and give a result or the
+//! [`Refusal`] that document 01 names, as amended. [`decode`] takes readings as f32s, [`decode_signed`] as signed bytes,
+//! without a float. [`doors`] has the same entries with 01's bare numbers.
 //!
 //! ```
 //! use relay_coder::{Code, Rate, decode, encode};
@@ -20,8 +21,10 @@ mod decoder;
 pub mod doors;
 mod encoder;
 mod refusal;
+mod signed;
 mod slices;
 
 pub use decoder::{Word, decode, decode_into, scratch_len};
 pub use encoder::{Code, INFO_LIMIT, Rate, coded_len, conv_encode, conv_encode_into, encode, encode_into};
-pub use refusal::{Refusal, count, score};
+pub use refusal::{Refusal, count, score, signed_score};
+pub use signed::{SignedWord, decode_signed, decode_signed_into};

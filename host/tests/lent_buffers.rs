@@ -41,6 +41,11 @@ fn unknown_codes_and_rates_give_1_and_2() {
     for (code, rate, number) in [(3, 0, 1), (255, 4, 1), (0, 5, 2), (1, 255, 2), (2, 5, 2)] {
         assert_eq!(doors::encode(code, rate, &[1], &mut out), number * REFUSED);
         assert_eq!(doors::coded_len(code, rate, 1), number * REFUSED);
+        assert_eq!(doors::decode(code, rate, 1, &[], &mut out, &mut []), number * REFUSED);
+        assert_eq!(
+            doors::decode_signed(code, rate, 1, &[-128], &mut out, &mut []),
+            number * REFUSED
+        );
     }
     assert_eq!(out, [CANARY; 32]);
 }
@@ -56,4 +61,21 @@ fn the_lowest_number_comes_first() {
     assert_eq!(doors::coded_len(3, 5, usize::MAX), REFUSED);
     assert_eq!(doors::coded_len(0, 5, usize::MAX), 2 * REFUSED);
     assert_eq!(doors::coded_len(0, 0, usize::MAX), 3 * REFUSED);
+    let mut scratch = [CANARY; 80];
+    let mut signed = |code, rate, info, room, space| {
+        doors::decode_signed(
+            code,
+            rate,
+            info,
+            &[1, -128],
+            &mut [CANARY][..room],
+            &mut scratch[..space],
+        )
+    };
+    assert_eq!(signed(3, 5, usize::MAX, 0, 0), REFUSED);
+    assert_eq!(signed(0, 5, usize::MAX, 0, 0), 2 * REFUSED);
+    assert_eq!(signed(0, 0, usize::MAX, 0, 0), 3 * REFUSED);
+    assert_eq!(signed(0, 0, 1, 0, 0), 4 * REFUSED);
+    assert_eq!(signed(0, 0, 1, 1, 79), 5 * REFUSED);
+    assert_eq!(signed(0, 0, 1, 1, 80), 12 * REFUSED + 1);
 }

@@ -6,6 +6,7 @@ use call_lines::fields::byte;
 use call_lines::fields::field;
 use call_lines::fields::fill;
 use call_lines::fields::fill_floats;
+use call_lines::fields::fill_signed;
 use call_lines::fields::lent;
 use call_lines::fields::lent_long;
 use call_lines::fields::number;
@@ -16,6 +17,7 @@ use call_lines::print::print_number;
 use call_lines::shapes::COMPONENTS;
 use f32_answers::word_number;
 use refusal::count_number;
+use signed_readings::viterbi_decode_signed_with;
 
 fn print_both(answer: u64, out: &[u8], scratch: &[u8]) {
     print_answer(answer, out);
@@ -71,6 +73,23 @@ pub fn readings(line: &[u8]) {
     let info = number(field(line, 3)) as usize;
     let answer = readings::viterbi_decode_bytes(code, &bytes[0..n], info, rate, out, scratch);
     print_both(word_number(answer), out, scratch);
+}
+
+// `i CODE RATE COUNT READINGS ROOM SCRATCH`: the same of readings that are signed bytes.
+pub fn signed(line: &[u8]) {
+    let mut readings = [0; SHORT];
+    let n = fill_signed(field(line, 4), &mut readings);
+    let mut out_room = lent();
+    let m = room(field(line, 5), SHORT);
+    let out = &mut out_room[0..m];
+    let mut scratch_room = lent_long();
+    let k = room(field(line, 6), LONG);
+    let scratch = &mut scratch_room[0..k];
+    let code = byte(field(line, 1));
+    let rate = byte(field(line, 2));
+    let info = number(field(line, 3)) as usize;
+    let answer = viterbi_decode_signed_with(code, &readings[0..n], info, rate, out, scratch);
+    print_both(signed_answers::word_number(answer), out, scratch);
 }
 
 // `s COMPONENTS ROOM SCRATCH`: the components' bytes, and the lengths of the output and of the scratch. Prints the

@@ -26,6 +26,7 @@ fn call(letter: u8, line: &[u8]) {
         b'p' => blocks::plain(line),
         b'l' => blocks::length(line),
         b'b' => blocks::readings(line),
+        b'i' => blocks::signed(line),
         b's' => blocks::soft(line),
         b'h' => blocks::hard(line),
         b'n' => stream::fresh(),

@@ -321,3 +321,26 @@ pub fn fill_floats(text: &[u8], into: &mut [f32]) -> usize
     let count = f32s::from_all_bytes(&bytes[0..n], into);
     lesser(count, into.len())
 }
+
+// The signed byte that a byte makes, in two's complement.
+fn signed(byte: u8) -> i8 {
+    if byte < 128 {
+        return byte as i8;
+    }
+    let below = (255 - byte) as i8;
+    -below - 1
+}
+
+// The same of the signed bytes that the bytes make.
+pub fn fill_signed(text: &[u8], into: &mut [i8]) -> usize
+    ensures { λ r. ⌜ r ≤ length (now (into .exit)) ⌝ }
+{
+    let mut bytes = lent();
+    let n = fill(text, &mut bytes);
+    let count = lesser(n, into.len());
+    for i in 0..count {
+        let value = signed(bytes[i]);
+        into[i] = value;
+    }
+    count
+}

@@ -23,6 +23,7 @@ pub fn is_call(line: &[u8]) -> bool {
         b'p' => fits(line, b"Ss"),
         b'l' => fits(line, b"bbn"),
         b'b' => fits(line, b"bbnLsl"),
+        b'i' => fits(line, b"bbnSsl"),
         b's' => fits(line, b"fsl"),
         b'h' => fits(line, b"Ssl"),
         b't' => fits(line, b"qHbbf"),

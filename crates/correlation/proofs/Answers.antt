@@ -1,19 +1,19 @@
 -- The refusals in their order, and which score an accepted call has; and that a decoding keeps the promise. For any kind of
 -- decoder. Assumes nothing.
-use mathlib.Core.Bool.{Bool}
+use mathlib.Core.Bool.{Bool, true}
 use mathlib.Core.List.{List}
 use mathlib.Core.Path.{_≡_, sym, ap, _∙_}
 use Prim.Native.Nat.{ℕ, _≤_, _<_}
 use native.Mathlib.Omega.{arith}
 use lib.Dec.{ltb}
-use lib.ListN.{length, take}
+use lib.ListN.{length, getD, take}
 use Rattle.encoder.specs.Encode.{codedLengthOf}
 use Rattle.encoder.proofs.Checks.{checked-past}
 use Rattle.refusal.specs.Answer.{Said, accepted, refused, refuseWhen}
 use Rattle.refusal.specs.First.{firstBad, refuseAtBad}
 use Rattle.refusal.specs.Lent.{over, Lent}
 use Rattle.refusal.specs.Numbers.{shortOutput, shortScratch}
-use Rattle.refusal.proofs.FirstBad.{some-bad, none-bad, accepted-past-bad}
+use Rattle.refusal.proofs.FirstBad.{some-bad, none-bad, accepted-past-bad, good-before, accepted-all-good}
 use Rattle.refusal.proofs.Over.{both-accepted}
 use Rattle.refusal.proofs.Told.{accepted-told, accepted-past}
 use Rattle.trellis.specs.Choice.{codeOf, patternOf}
@@ -69,16 +69,28 @@ module _
 
   -- ---- what is accepted
 
-  pub accepted-score : (s : S) → said ≡ accepted s → s ≡ score
+  accepted-tested : (s : S) → said ≡ accepted s → readings-tested ≡ accepted s
   unfolding answered
-  accepted-score s e =
+  accepted-tested s e =
       let scratch-tested = refuseWhen (ltb scratch (survivorsOf code info)) shortScratch readings-tested in
       let room-tested = refuseWhen (ltb room info) shortOutput scratch-tested in
       let few : room-tested ≡ accepted s = checked-past code rate info room-tested s e in
       let fits : scratch-tested ≡ accepted s = accepted-past (ltb room info) shortOutput scratch-tested s few in
-      let rows-fit : readings-tested ≡ accepted s =
-      accepted-past (ltb scratch (survivorsOf code info)) shortScratch readings-tested s fits in
-      sym (accepted-told _ s (accepted-past-bad is-good bad-number (take (codedLengthOf code rate info) readings) _ s rows-fit))
+      accepted-past (ltb scratch (survivorsOf code info)) shortScratch readings-tested s fits
+
+  pub accepted-score : (s : S) → said ≡ accepted s → s ≡ score
+  accepted-score s e =
+      let used = take (codedLengthOf code rate info) readings in
+      sym (accepted-told _ s (accepted-past-bad is-good bad-number used _ s (accepted-tested s e)))
+
+  -- no used reading is bad
+  pub accepted-good :
+      (s : S) → said ≡ accepted s → (d : A) (i : ℕ) → i < length (take (codedLengthOf code rate info) readings) →
+      is-good (getD (take (codedLengthOf code rate info) readings) i d) ≡ true
+  accepted-good s e d i h =
+      let used = take (codedLengthOf code rate info) readings in
+      good-before is-good d used i
+      (omega (arith, h, accepted-all-good is-good bad-number used (accepted score) s (accepted-tested s e)))
 
 -- ---- what a decoding leaves is what it promises
 

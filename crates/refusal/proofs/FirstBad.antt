@@ -5,7 +5,7 @@ use mathlib.Core.List.{List, [], _∷_}
 use mathlib.Core.Path.{_≡_, refl, ap, sym, subst, _∙_}
 use Prim.Native.Nat.{ℕ, zero, suc, _+_, _≤_, _<_}
 use native.Mathlib.Omega.{arith}
-use borrow.Author.Tests.{lt-ltb, le-ltb}
+use borrow.Author.Tests.{lt-ltb, le-ltb, ltb-false}
 use lib.Dec.{T, ltb}
 use lib.ListN.{length, getD, drop, drop-of-length-le}
 use Rattle.refusal.specs.Answer.{Said, accepted, refused}
@@ -69,6 +69,34 @@ module _ {E : Type 0} (is-good : E → Bool) where
   unfolding firstBad
   all-good d [] each = refl
   all-good d (x ∷ xs) each = rw (each 0 (omega arith)) (ap suc (all-good d xs (λ i h. each (suc i) (omega arith))))
+
+  -- those before the first bad one are good
+  pub good-before : (d : E) (xs : List E) (i : ℕ) → i < firstBad is-good xs → is-good (getD xs i d) ≡ true
+  unfolding firstBad
+  good-before d [] i h = absurd (omega (arith, h))
+  good-before d (x ∷ xs) i h = go (is-good x) refl i (λ j k. good-before d xs j k) h
+    where
+      go :
+          (good : Bool) → is-good x ≡ good → (j : ℕ) →
+          ((k : ℕ) → k < firstBad is-good xs → is-good (getD xs k d) ≡ true) →
+          j < cond good (suc (firstBad is-good xs)) 0 → is-good (getD (x ∷ xs) j d) ≡ true
+      go true e zero behind k = e
+      go true e (suc j) behind k = behind j (omega arith)
+      go false e j behind k = absurd (omega (arith, k))
+
+  -- what is accepted has no bad one
+  pub accepted-all-good :
+      {A : Type 0} (number : ℕ) (xs : List E) (rest : Said A) (a : A) → refuseAtBad number is-good xs rest ≡ accepted a →
+      length xs ≤ firstBad is-good xs
+  accepted-all-good {A} number xs rest a e = go (ltb (firstBad is-good xs) (length xs)) refl e
+    where
+      go :
+          (bad : Bool) → ltb (firstBad is-good xs) (length xs) ≡ bad →
+          cond bad (refused number (firstBad is-good xs)) rest ≡ accepted a → length xs ≤ firstBad is-good xs
+      go true h k =
+          let never : _≡_ {A = ℕ} 0 1 = cc in
+          absurd (omega arith)
+      go false h k = ltb-false (firstBad is-good xs) (length xs) h
 
   -- what is accepted passed the test
   pub accepted-past-bad :

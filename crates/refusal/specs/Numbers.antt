@@ -44,3 +44,7 @@ badInput = 10
 -- the Varicode writer is given a byte of 128 or above
 abbrev pub badByte : ℕ
 badByte = 11
+
+-- a used signed byte is −128
+abbrev pub badSignedByte : ℕ
+badSignedByte = 12

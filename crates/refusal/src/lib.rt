@@ -41,8 +41,11 @@ pub const BAD_INPUT: u8 = 10;
 // The Varicode writer is given a byte of 128 or above.
 pub const BAD_BYTE: u8 = 11;
 
-// A refusal: one of these numbers, and the index of the first bad value where it is BAD_READING or
-// BAD_COMPONENT, else 0.
+// A used signed byte is −128.
+pub const BAD_SIGNED_BYTE: u8 = 12;
+
+// A refusal: one of these numbers, and the index of the first bad value where it is BAD_READING, BAD_COMPONENT or
+// BAD_SIGNED_BYTE, else 0.
 pub struct Refusal {
     pub number: u8,
     pub place: u32,

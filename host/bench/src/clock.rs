@@ -7,15 +7,37 @@ pub const ROUNDS: usize = 31;
 /// The least time of one turn, well above what the clock can tell.
 const TURN_NS: f64 = 2_000_000.0;
 
+/// The times of one call over the turns, in ns.
+pub struct Times {
+    pub least: f64,
+    pub median: f64,
+}
+
 /// The median time of one call of each, in ns.
-pub fn medians(mut first: impl FnMut(), mut second: impl FnMut()) -> (f64, f64) {
+pub fn medians(first: impl FnMut(), second: impl FnMut()) -> (f64, f64) {
+    let [first, second] = times(ROUNDS, first, second);
+    (first.median, second.median)
+}
+
+/// The times of one call of each, over so many rounds of a turn each.
+pub fn times(rounds: usize, mut first: impl FnMut(), mut second: impl FnMut()) -> [Times; 2] {
     let (first_calls, second_calls) = (calls_per_turn(&mut first), calls_per_turn(&mut second));
     let (mut first_times, mut second_times) = (Vec::new(), Vec::new());
-    for _ in 0..ROUNDS {
+    for _ in 0..rounds {
         first_times.push(time(&mut first, first_calls));
         second_times.push(time(&mut second, second_calls));
     }
-    (median(first_times), median(second_times))
+    [first_times, second_times].map(Times::of)
+}
+
+impl Times {
+    fn of(mut turns: Vec<f64>) -> Times {
+        turns.sort_by(f64::total_cmp);
+        Times {
+            least: turns[0],
+            median: turns[turns.len() / 2],
+        }
+    }
 }
 
 /// Doubles the calls until a turn is long enough; that also warms the caches.
@@ -34,9 +56,4 @@ fn time(work: &mut impl FnMut(), calls: u32) -> f64 {
         work();
     }
     began.elapsed().as_nanos() as f64 / f64::from(calls)
-}
-
-fn median(mut times: Vec<f64>) -> f64 {
-    times.sort_by(f64::total_cmp);
-    times[times.len() / 2]
 }

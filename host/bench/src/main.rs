@@ -1,10 +1,11 @@
-//! Times the proved doors, and the proved code that has no door, against the oracle: one run, equal input, both optimised,
-//! one module for each area.
+//! Times the proved doors, and the proved code that has no door, against the oracle, or against each other where the
+//! oracle has no such entry: one run, equal input, both optimised, one module for each area.
 
 mod clock;
 mod decoder;
 mod encoder;
 mod lookup;
+mod signed;
 mod standard;
 mod streaming;
 mod symbols;
@@ -17,6 +18,7 @@ fn main() {
     encoder::run();
     decoder::run();
     standard::run();
+    signed::run();
     symbols::run();
     streaming::run();
     lookup::run();

@@ -4,7 +4,7 @@ use crate::answers::damage_is_seen;
 use crate::groups::Groups;
 use expected::Random;
 use expected::streaming::{Decoder, LAG};
-use list::decoder::block_line;
+use list::decoder::{block_line, signed_line};
 use list::line::Line;
 use list::streaming::inputs::noisy;
 use list::streaming::{feed_lines, flush_line, fresh_line};
@@ -38,6 +38,7 @@ fn lines(random: &mut Random) -> Vec<Line> {
         soft_line(&[0.5; 9], 5, survivors(4) + 1),
         hard_line(&[1; 8], 4, survivors(4)),
         block_line(0, 0, 1, &[0, 0, 0x80, 0xBF], 2, 81),
+        signed_line(0, 0, 1, &[-1], 2, 81),
     ]);
     lines
 }

@@ -1,12 +1,14 @@
 //! The block decoder of readings: which groups are compared.
 
-mod accepted;
-mod best;
-mod call;
-mod refused;
+pub mod accepted;
+pub mod best;
+pub mod call;
+pub mod refused;
 
 use crate::groups::Groups;
+use call::bytes;
 use expected::{CODES, RATES, Random};
+use refused::Fault;
 
 pub fn run(groups: &mut Groups, random: &mut Random) {
     for (code, code_name) in CODES {
@@ -19,7 +21,7 @@ pub fn run(groups: &mut Groups, random: &mut Random) {
                     accepted::VALUES,
                     accepted::ALL_INFO
                 ),
-                accepted::every_list(code, rate),
+                accepted::every_list(code, rate, &accepted::VALUES, bytes),
             );
             for kind in accepted::KINDS {
                 groups.report(
@@ -32,7 +34,10 @@ pub fn run(groups: &mut Groups, random: &mut Random) {
                     accepted::lengths(code, rate, kind, random),
                 );
             }
-            groups.report(&format!("{name}, noisy codewords"), accepted::noisy(code, rate, random));
+            groups.report(
+                &format!("{name}, noisy codewords"),
+                accepted::noisy(code, rate, bytes, random),
+            );
             groups.report(
                 &format!("{name}, a NaN or an infinity at each place, used and surplus"),
                 refused::bad_readings(code, rate, random),
@@ -44,8 +49,16 @@ pub fn run(groups: &mut Groups, random: &mut Random) {
             "decode, whole readings against every word of 0 to {} bits: the best, first among equals, its score, and that it stays",
             best::ALL_BITS
         ),
-        best::every_word(random),
+        best::every_word(&best::FLOATS, random),
     );
-    groups.report("decode, every code and rate number", refused::every_number(random));
-    groups.report("decode, every set of the faults 1 to 6", refused::faults(random));
+    groups.report(
+        "decode, every code and rate number",
+        refused::every_number(&bytes(&[-1.0, 0.5, 2.0]), random),
+    );
+    let nan = Fault {
+        good: bytes(&[1.0]),
+        bad: bytes(&[f32::NAN]),
+        number: 6,
+    };
+    groups.report("decode, every set of the faults 1 to 6", refused::faults(&nan, random));
 }

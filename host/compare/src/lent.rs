@@ -1,6 +1,7 @@
 //! Buffers lent to a door, with all that a call could do to them in sight.
 
 use expected::{After, Random};
+use std::fmt::LowerHex;
 
 /// A byte that no coded bit has.
 const CANARY: u8 = 0xA5;
@@ -63,6 +64,6 @@ fn shown(after: &After) -> String {
 }
 
 /// Bytes as two hex digits each.
-pub fn hex(bytes: &[u8]) -> String {
+pub fn hex(bytes: &[impl LowerHex]) -> String {
     bytes.iter().map(|byte| format!("{byte:02x}")).collect()
 }

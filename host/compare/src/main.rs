@@ -10,6 +10,7 @@ mod groups;
 mod lent;
 mod no_calls;
 mod program;
+mod signed;
 mod streaming;
 mod symbols;
 mod varicode;
@@ -25,7 +26,7 @@ const SEED: u64 = 0x4879_6F6C_6D75_7265;
 /// What compares an area: it reports its groups, with random inputs of its own.
 type Area = fn(&mut Groups, &mut Random);
 
-const AREAS: [Area; 12] = [
+const AREAS: [Area; 13] = [
     encoder::run,
     decoder::run,
     varicode::run_words,
@@ -38,6 +39,7 @@ const AREAS: [Area; 12] = [
     program::run,
     varicode::pauses::run,
     varicode::pauses::run_texts,
+    signed::run,
 ];
 
 /// The areas run side by side, and are reported in order. A new one comes last: the others keep their random inputs so.

@@ -15,7 +15,7 @@ const LONG: usize = 266_240;
 
 /// A letter that names nothing, fields that are missing, odd, too many, empty, in digits that are none or upper case, or
 /// of more bytes than there is room for; pieces that are not closed or closed twice.
-const LINES: [&str; 51] = [
+const LINES: [&str; 59] = [
     "x 00",
     "vv 65",
     "V 65",
@@ -57,6 +57,14 @@ const LINES: [&str; 51] = [
     "s 000080 1 10",
     "s 0000803f 1 4018b",
     "b 00 00 1 (00*40181) 1 50",
+    "I 00 00 1 81 1 50",
+    "i 00 00 1 81 1",
+    "i 00 00 1 81 1 50 0",
+    "i 00 00 1 8 1 50",
+    "i 00 00 1 -7f 1 50",
+    "i 00 00 1 (00*40181) 1 50",
+    "i 00 00 1 81 8021 50",
+    "i 00 00 1 81 1 40181",
     "w (00*ff) 0 0 1 t1",
     "w (00*100) 0 0 2 t1",
     "w (00*100) 0 0 1 z1",

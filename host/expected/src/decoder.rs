@@ -14,26 +14,54 @@ pub struct AfterBlock {
     pub scratch: Vec<u8>,
 }
 
+impl AfterBlock {
+    /// What a call on buffers as they are before it comes to: what was decoded in front, or the answer that refuses and
+    /// no byte changed.
+    pub(crate) fn of(decoded: Result<Run, u64>, out: &[u8], scratch: &[u8]) -> AfterBlock {
+        let (mut out, mut scratch) = (out.to_vec(), scratch.to_vec());
+        let answer = match decoded {
+            Ok(run) => {
+                out[..run.word.len()].copy_from_slice(&run.word);
+                scratch[..run.survivors.len()].copy_from_slice(&run.survivors);
+                u64::from(run.score)
+            }
+            Err(answer) => answer,
+        };
+        AfterBlock { answer, out, scratch }
+    }
+}
+
 /// `relay_decode`, for buffers as they are before the call.
 pub fn decode(code: u8, rate: u8, info: usize, bytes: &[u8], out: &[u8], scratch: &[u8]) -> AfterBlock {
-    let mut after = AfterBlock {
-        answer: 0,
-        out: out.to_vec(),
-        scratch: scratch.to_vec(),
-    };
-    match accepted(code, rate, info, bytes, out.len(), scratch.len()) {
-        Ok(run) => {
-            after.answer = u64::from(run.score.to_bits());
-            after.out[..info].copy_from_slice(&run.word);
-            after.scratch[..run.survivors.len()].copy_from_slice(&run.survivors);
-        }
-        Err(answer) => after.answer = answer,
-    }
-    after
+    AfterBlock::of(
+        accepted(code, rate, info, bytes, out.len(), scratch.len()),
+        out,
+        scratch,
+    )
 }
 
 /// What is decoded, or the answer that refuses.
 fn accepted(code: u8, rate: u8, info: usize, bytes: &[u8], room: usize, scratch: usize) -> Result<Run, u64> {
+    let selected = with_room(code, rate, info, room, scratch)?;
+    let readings: Vec<f32> = readings_of(bytes);
+    let coded = selected.coded_len(info);
+    if let Some(place) = readings.iter().take(coded).position(|reading| !reading.is_finite()) {
+        return Err(refused(6) + place as u64);
+    }
+    let pairs = received(code, rate, &readings, info);
+    let word = match selected {
+        Selected::Oracle(oracle_code, oracle_rate) => {
+            viterbi_decode_soft_with(oracle_code, &readings, info, oracle_rate)
+        }
+        Selected::Standard(_) => standard::decode(&pairs, info),
+    };
+    let run = TRELLISES[usize::from(code)].run(&pairs, info);
+    assert_eq!(run.word, word, "the arithmetic run again is not the oracle's");
+    Ok(run)
+}
+
+/// What is selected, or the answer that gives the first of the refusals 1 to 5 that is due.
+pub(crate) fn with_room(code: u8, rate: u8, info: usize, room: usize, scratch: usize) -> Result<Selected, u64> {
     let selected = selected(code, rate, info).map_err(refused)?;
     debug_assert!(info <= INFO_LIMIT);
     if room < info {
@@ -42,25 +70,7 @@ fn accepted(code: u8, rate: u8, info: usize, bytes: &[u8], room: usize, scratch:
     if scratch < survivors(code, info) {
         return Err(refused(5));
     }
-    let readings: Vec<f32> = readings_of(bytes);
-    let coded = selected.coded_len(info);
-    if let Some(place) = readings.iter().take(coded).position(|reading| !reading.is_finite()) {
-        return Err(refused(6) + place as u64);
-    }
-    let (pairs, word) = match selected {
-        Selected::Oracle(oracle_code, oracle_rate) => (
-            received(&PATTERNS[usize::from(rate)], &readings, info + width(code)),
-            viterbi_decode_soft_with(oracle_code, &readings, info, oracle_rate),
-        ),
-        Selected::Standard(rate) => {
-            let pairs = standard::received(rate, &readings, info);
-            let word = standard::decode(&pairs, info);
-            (pairs, word)
-        }
-    };
-    let run = TRELLISES[usize::from(code)].run(&pairs, info);
-    assert_eq!(run.word, word, "the arithmetic run again is not the oracle's");
-    Ok(run)
+    Ok(selected)
 }
 
 /// Four bytes each, low first; a last piece under four bytes is surplus.
@@ -71,8 +81,8 @@ pub fn readings_of(bytes: &[u8]) -> Vec<f32> {
         .collect()
 }
 
-struct Trellis {
-    width: usize,
+pub(crate) struct Trellis {
+    pub width: usize,
     taps: [u32; 2],
 }
 
@@ -87,7 +97,7 @@ const K7: Trellis = Trellis {
 };
 
 /// By the numbers of the codes.
-const TRELLISES: [Trellis; 3] = [K5, K7, K7];
+pub(crate) const TRELLISES: [Trellis; 3] = [K5, K7, K7];
 
 /// The width K - 1 of a code's register; K5's where the number is no code's.
 pub fn width(code: u8) -> usize {
@@ -108,20 +118,29 @@ const PATTERNS: [[&str; 2]; 5] = [
     ["1111010", "1000101"],
 ];
 
-/// The readings put back to where they were sent, G0's and G1's of each step; 0.0 where none is.
-fn received(pattern: &[&str; 2], readings: &[f32], steps: usize) -> Vec<[f32; 2]> {
+/// The readings put back to where they were sent, G0's and G1's of each step; 0 where none is.
+pub(crate) fn received<R: Copy + Default>(code: u8, rate: u8, readings: &[R], info: usize) -> Vec<[R; 2]> {
+    match code {
+        2 => standard::received(rate, readings, info),
+        _ => by_pattern(&PATTERNS[usize::from(rate)], readings, info + width(code)),
+    }
+}
+
+fn by_pattern<R: Copy + Default>(pattern: &[&str; 2], readings: &[R], steps: usize) -> Vec<[R; 2]> {
     let mut readings = readings.iter();
     let mut place = |row: &str, step: usize| match row.as_bytes()[step % row.len()] {
-        b'1' => readings.next().copied().unwrap_or(0.0),
-        _ => 0.0,
+        b'1' => readings.next().copied().unwrap_or_default(),
+        _ => R::default(),
     };
     (0..steps).map(|step| pattern.map(|row| place(row, step))).collect()
 }
 
-struct Run {
-    word: Vec<u8>,
-    score: f32,
-    survivors: Vec<u8>,
+/// What a decoding comes to.
+pub(crate) struct Run {
+    pub word: Vec<u8>,
+    /// The score's 32 bits.
+    pub score: u32,
+    pub survivors: Vec<u8>,
 }
 
 impl Trellis {
@@ -136,11 +155,10 @@ impl Trellis {
             for state in (0..states).filter(|state| metrics[*state] > mark) {
                 for input in [0, 1] {
                     let window = input << self.width | state;
-                    let [first, second] = self.taps.map(|taps| (taps & window as u32).count_ones() % 2);
-                    let gain = match (first, second) {
-                        (0, 0) => a + b,
-                        (0, _) => a - b,
-                        (_, 0) => -a + b,
+                    let gain = match self.coded(window) {
+                        [0, 0] => a + b,
+                        [0, _] => a - b,
+                        [_, 0] => -a + b,
                         _ => -a - b,
                     };
                     let candidate = metrics[state] + gain;
@@ -155,12 +173,18 @@ impl Trellis {
         }
         Run {
             word: self.way_back(&survivors, info),
-            score: metrics[0],
+            score: metrics[0].to_bits(),
             survivors,
         }
     }
 
-    fn way_back(&self, survivors: &[u8], info: usize) -> Vec<u8> {
+    /// The coded bits of a window: the input bit, and the state behind it.
+    pub fn coded(&self, window: usize) -> [u32; 2] {
+        self.taps.map(|taps| (taps & window as u32).count_ones() % 2)
+    }
+
+    /// The word that the survivors lead back to from state 0.
+    pub fn way_back(&self, survivors: &[u8], info: usize) -> Vec<u8> {
         let mut state = 0;
         let mut inputs: Vec<u8> = survivors
             .chunks(1 << self.width)

@@ -1,12 +1,13 @@
 //! What each door must answer and leave in its buffers. An accepted input's output is the oracle's; whether an
 //! input is accepted is decided here, from 01's table of refusal numbers, and from nothing of the proved code. The
-//! reader for pauses and code number 2, which the oracle does not have, are by the words of the requests 2026-01 and
-//! 2026-04.
+//! reader for pauses, code number 2 and the decoder of signed bytes, which the oracle does not have, are by the words of
+//! the requests 2026-01, 2026-04 and 2026-05.
 
 pub mod decoder;
 pub mod encoder;
 pub mod program;
 mod random;
+pub mod signed;
 mod standard;
 pub mod streaming;
 pub mod symbols;

@@ -37,9 +37,9 @@ pub fn coded_len(rate: u8, info: usize) -> usize {
     transmitted(rate, info).len()
 }
 
-/// The readings put back to where they were sent, X's and Y's of each input bit; 0.0 where none is.
-pub fn received(rate: u8, readings: &[f32], info: usize) -> Vec<[f32; 2]> {
-    let mut pairs = vec![[0.0; 2]; info + TAIL];
+/// The readings put back to where they were sent, X's and Y's of each input bit; 0 where none is.
+pub fn received<R: Copy + Default>(rate: u8, readings: &[R], info: usize) -> Vec<[R; 2]> {
+    let mut pairs = vec![[R::default(); 2]; info + TAIL];
     for (reading, (of, at)) in readings.iter().zip(transmitted(rate, info)) {
         pairs[at][of] = *reading;
     }

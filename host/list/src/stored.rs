@@ -2,6 +2,7 @@
 
 pub mod decoder;
 pub mod encoder;
+pub mod signed;
 pub mod streaming;
 pub mod symbols;
 pub mod varicode;

@@ -1,6 +1,6 @@
 //! Readings that the decoder accepts.
 
-use super::call::{Call, bytes};
+use super::call::{Call, Reading, bytes};
 use crate::groups::Outcome;
 use crate::lent::{Fill, filled};
 use expected::decoder::survivors;
@@ -20,12 +20,12 @@ pub const LONG: [usize; 3] = [500, INFO_LIMIT - 1, INFO_LIMIT];
 
 /// How readings are chosen.
 #[derive(Clone, Copy)]
-pub struct Kind {
+pub struct Kind<V> {
     pub name: &'static str,
-    reading: fn(&mut Random) -> f32,
+    pub reading: fn(&mut Random) -> V,
 }
 
-pub const KINDS: [Kind; 4] = [
+pub const KINDS: [Kind<f32>; 4] = [
     Kind {
         name: "whole",
         reading: |random| random.below(7) as f32 - 3.0,
@@ -63,14 +63,16 @@ pub const KINDS: [Kind; 4] = [
     },
 ];
 
-pub fn every_list(code: u8, rate: u8) -> Outcome {
+/// Lists of such values, which cross as `crossing` says.
+pub fn every_list<V: Copy, R: Reading>(code: u8, rate: u8, values: &[V], crossing: fn(&[V]) -> Vec<R>) -> Outcome {
     let mut cases = 0;
     for info in 0..=ALL_INFO {
         let (out, scratch) = (vec![0xA5; info + 1], vec![0xA5; survivors(code, info) + 1]);
         for len in 0..=ALL_LISTS {
-            for number in 0..6usize.pow(len) {
-                let list: Vec<f32> = (0..len).map(|at| VALUES[number / 6usize.pow(at) % 6]).collect();
-                let readings = &bytes(&list);
+            for number in 0..values.len().pow(len) {
+                let digit = |at| number / values.len().pow(at) % values.len();
+                let list: Vec<V> = (0..len).map(|at| values[digit(at)]).collect();
+                let readings = &crossing(&list);
                 Call {
                     code,
                     rate,
@@ -85,12 +87,11 @@ pub fn every_list(code: u8, rate: u8) -> Outcome {
     Ok(cases)
 }
 
-pub fn lengths(code: u8, rate: u8, kind: Kind, random: &mut Random) -> Outcome {
+pub fn lengths(code: u8, rate: u8, kind: Kind<f32>, random: &mut Random) -> Outcome {
     let mut cases = 0;
     for info in (0..=LENGTHS).chain(LONG) {
         let coded = coded_len(code, rate, info) as usize;
-        let lens = [0, 1, coded / 2, coded - 1, coded, coded + 1, coded + 50];
-        for len in lens {
+        for len in list_lens(coded) {
             let list: Vec<f32> = (0..len).map(|_| (kind.reading)(random)).collect();
             cases += every_buffer(code, rate, info, &bytes(&list), random)?;
         }
@@ -102,8 +103,13 @@ pub fn lengths(code: u8, rate: u8, kind: Kind, random: &mut Random) -> Outcome {
     Ok(cases)
 }
 
-/// Codewords sent through noise, from none to more than can be mended.
-pub fn noisy(code: u8, rate: u8, random: &mut Random) -> Outcome {
+/// Lists of none to surplus readings, where so many are used.
+pub fn list_lens(coded: usize) -> [usize; 7] {
+    [0, 1, coded / 2, coded - 1, coded, coded + 1, coded + 50]
+}
+
+/// Codewords sent through noise, from none to more than can be mended; what is heard crosses as `crossing` says.
+pub fn noisy<R: Reading>(code: u8, rate: u8, crossing: fn(&[f32]) -> Vec<R>, random: &mut Random) -> Outcome {
     let mut cases = 0;
     for spread in [0.0, 0.5, 1.0, 2.0, 4.0] {
         for _ in 0..20 {
@@ -115,14 +121,14 @@ pub fn noisy(code: u8, rate: u8, random: &mut Random) -> Outcome {
                 .iter()
                 .map(|bit| 1.0 - 2.0 * f32::from(*bit) + spread * (random.below(2001) as f32 / 1000.0 - 1.0))
                 .collect();
-            cases += every_buffer(code, rate, info, &bytes(&list), random)?;
+            cases += every_buffer(code, rate, info, &crossing(&list), random)?;
         }
     }
     Ok(cases)
 }
 
 /// Both buffers exact, and both long, filled with random bytes.
-fn every_buffer(code: u8, rate: u8, info: usize, readings: &[u8], random: &mut Random) -> Outcome {
+pub fn every_buffer<R: Reading>(code: u8, rate: u8, info: usize, readings: &[R], random: &mut Random) -> Outcome {
     for more in [0, 30] {
         let out = filled(Fill::Varying, info + more, random);
         let scratch = filled(Fill::Varying, survivors(code, info) + more, random);

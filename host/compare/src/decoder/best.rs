@@ -7,7 +7,7 @@ use crate::groups::Outcome;
 use expected::decoder::{survivors, width};
 use expected::encoder::{coded_len, encode};
 use expected::{CODES, RATES, Random};
-use relay_coder::doors;
+use relay_coder::{Refusal, doors};
 
 /// Every word up to this many bits is tried against the door's.
 pub const ALL_BITS: usize = 10;
@@ -22,16 +22,38 @@ struct Word {
     states: Vec<u32>,
 }
 
-pub fn every_word(random: &mut Random) -> Outcome {
+/// A door that is tried, on whole readings.
+pub struct Tried {
+    pub entry: &'static str,
+    /// How large the readings of a list are at most.
+    pub largest: fn(&mut Random) -> i32,
+    /// The word and the score that the door gives, by code, rate, info count and readings.
+    pub door: fn(u8, u8, usize, &[i32]) -> Heard,
+}
+
+/// A word and its score, or the refusal of what should be accepted.
+pub type Heard = Result<(Vec<u8>, f64), Refusal>;
+
+/// The decoder of f32s.
+pub const FLOATS: Tried = Tried {
+    entry: "decode",
+    largest: |random| random.below(4) as i32,
+    door: floats,
+};
+
+pub fn every_word(tried: &Tried, random: &mut Random) -> Outcome {
     let mut cases = 0;
     for (code, _) in CODES {
         for (rate, _) in RATES {
             for info in 0..=ALL_BITS {
                 let words = words(code, rate, info);
                 for _ in 0..LISTS {
-                    let readings = readings(coded_len(code, rate, info) as usize, random);
-                    compare(code, rate, &words, &readings, random).map_err(|why| {
-                        format!("  decode code {code} rate {rate} info {info}, readings {readings:?}\n  {why}")
+                    let most = (tried.largest)(random);
+                    let readings = readings(most, coded_len(code, rate, info) as usize, random);
+                    let door = |readings: &[i32]| (tried.door)(code, rate, info, readings);
+                    compare(door, &words, &readings, random).map_err(|why| {
+                        let entry = tried.entry;
+                        format!("  {entry} code {code} rate {rate} info {info}, readings {readings:?}\n  {why}")
                     })?;
                     cases += 1;
                 }
@@ -68,9 +90,8 @@ fn states(code: u8, bits: &[u8]) -> Vec<u32> {
     passed
 }
 
-/// Whole numbers from -3 to 3, or of fewer values, so that many words tie; as many as are used, fewer, or more.
-fn readings(coded: usize, random: &mut Random) -> Vec<i32> {
-    let most = random.below(4) as i32;
+/// Whole numbers, of which those of few values make many words tie; as many as are used, fewer, or more.
+fn readings(most: i32, coded: usize, random: &mut Random) -> Vec<i32> {
     let len = match random.below(4) {
         0 => random.below(coded + 1),
         1 => coded + random.below(4),
@@ -97,38 +118,45 @@ fn best<'a>(words: &'a [Word], readings: &[i32]) -> &'a Word {
         .expect("there is a word")
 }
 
-fn compare(code: u8, rate: u8, words: &[Word], readings: &[i32], random: &mut Random) -> Result<(), String> {
+fn compare(
+    door: impl Fn(&[i32]) -> Heard,
+    words: &[Word],
+    readings: &[i32],
+    random: &mut Random,
+) -> Result<(), String> {
     let best = best(words, readings);
-    let (bits, got) = door(code, rate, best.bits.len(), readings);
+    let door = |readings: &[i32]| door(readings).map_err(|refusal| refusal.to_string());
+    let (bits, got) = door(readings)?;
     if bits != best.bits {
         return Err(format!("the best word is {:?}, the door gives {bits:?}", best.bits));
     }
-    let must = score(best, readings) as f32;
+    let must = f64::from(score(best, readings));
     if got != must {
         return Err(format!("its score is {must}, the door says {got}"));
     }
     let moved = towards(best, readings, random);
-    let (bits, _) = door(code, rate, best.bits.len(), &moved);
+    let (bits, _) = door(&moved)?;
     if bits != best.bits {
         return Err(format!("moved towards {:?}, {moved:?} give {bits:?}", best.bits));
     }
     Ok(())
 }
 
-/// Some readings raised where the word codes 0 and lowered where it codes 1, missing ones among them.
+/// Some readings raised where the word codes 0 and lowered where it codes 1, missing ones among them; none beyond what
+/// a signed byte holds.
 fn towards(word: &Word, readings: &[i32], random: &mut Random) -> Vec<i32> {
     let missing = word.sent.len().saturating_sub(readings.len());
     let mut moved = readings.to_vec();
     moved.extend(vec![0; missing]);
     for (reading, bit) in moved.iter_mut().zip(&word.sent) {
         let by = random.below(3) as i32;
-        *reading += if *bit == 0 { by } else { -by };
+        *reading = (*reading + if *bit == 0 { by } else { -by }).clamp(-127, 127);
     }
     moved
 }
 
-/// The word and the score that the door gives; a zero reading is of either sign.
-fn door(code: u8, rate: u8, info: usize, readings: &[i32]) -> (Vec<u8>, f32) {
+/// A zero reading is of either sign.
+fn floats(code: u8, rate: u8, info: usize, readings: &[i32]) -> Heard {
     let list: Vec<f32> = readings
         .iter()
         .enumerate()
@@ -142,6 +170,6 @@ fn door(code: u8, rate: u8, info: usize, readings: &[i32]) -> (Vec<u8>, f32) {
         .collect();
     let (mut out, mut scratch) = (vec![0; info], vec![0; survivors(code, info)]);
     let answer = doors::decode(code, rate, info, &bytes(&list), &mut out, &mut scratch);
-    let score = relay_coder::score(answer).expect("whole readings are accepted");
-    (out, score)
+    let score = relay_coder::score(answer)?;
+    Ok((out, f64::from(score)))
 }

@@ -1,6 +1,6 @@
 //! Inputs that the decoder refuses, alone and several faults at once.
 
-use super::call::{Call, bytes};
+use super::call::{Call, Reading, bytes};
 use crate::encoder::refused::{has, lowest};
 use crate::groups::Outcome;
 use crate::lent::{FILLS, Fill, filled};
@@ -42,8 +42,7 @@ pub fn bad_readings(code: u8, rate: u8, random: &mut Random) -> Outcome {
     Ok(cases)
 }
 
-pub fn every_number(random: &mut Random) -> Outcome {
-    let readings = &bytes(&[-1.0, 0.5, 2.0]);
+pub fn every_number<R: Reading>(readings: &[R], random: &mut Random) -> Outcome {
     for code in 0..=255 {
         for rate in 0..=255 {
             let out = filled(Fill::Canary, 10, random);
@@ -60,8 +59,16 @@ pub fn every_number(random: &mut Random) -> Outcome {
     Ok(256 * 256)
 }
 
-/// Every set of faults; the lowest number of the set must come, and no byte may change.
-pub fn faults(random: &mut Random) -> Outcome {
+/// What a fault of the readings is: lists that have none and that have it, and the number that it gives.
+pub struct Fault<R> {
+    pub good: Vec<R>,
+    pub bad: Vec<R>,
+    pub number: u64,
+}
+
+/// Every set of the faults 1 to 5 and one of the readings, which has the place of 6 in a set; the lowest number of the
+/// set must come, and no byte may change.
+pub fn faults<R: Reading>(of_readings: &Fault<R>, random: &mut Random) -> Outcome {
     let mut cases = 0;
     for faults in 1..64 {
         for code in if has(faults, 1) { [3, 4, 255] } else { [0, 1, 2] } {
@@ -71,7 +78,7 @@ pub fn faults(random: &mut Random) -> Outcome {
                 } else {
                     [1, INFO_LIMIT]
                 } {
-                    cases += faulty(faults, code, rate, info, random)?;
+                    cases += faulty(of_readings, faults, code, rate, info, random)?;
                 }
             }
         }
@@ -79,16 +86,31 @@ pub fn faults(random: &mut Random) -> Outcome {
     Ok(cases)
 }
 
-fn faulty(faults: u32, code: u8, rate: u8, info: usize, random: &mut Random) -> Outcome {
+fn faulty<R: Reading>(
+    of_readings: &Fault<R>,
+    faults: u32,
+    code: u8,
+    rate: u8,
+    info: usize,
+    random: &mut Random,
+) -> Outcome {
     let need = info.min(INFO_LIMIT);
     let room = if has(faults, 4) { need - 1 } else { need };
     let rows = survivors(code, need);
     let space = if has(faults, 5) { rows - 1 } else { rows };
-    let readings = &bytes(&[if has(faults, 6) { f32::NAN } else { 1.0 }]);
+    let readings = if has(faults, 6) {
+        &of_readings.bad
+    } else {
+        &of_readings.good
+    };
+    let number = match lowest(faults) {
+        6 => of_readings.number,
+        number => number,
+    };
     for fill in FILLS {
         let (out, scratch) = (filled(fill, room, random), filled(fill, space, random));
         let must = AfterBlock {
-            answer: refused(lowest(faults)),
+            answer: refused(number),
             out: out.clone(),
             scratch: scratch.clone(),
         };

@@ -1,0 +1,42 @@
+-- `signed_readings::decode`: all steps, then the way back over what they leave. Assumes nothing.
+use native.Mathlib.Omega.{arith}
+use borrow.Author.Needs.{needs}
+use Rattle.correlation.proofs.Rows.{some-states, way-walkable, way-finds}
+use Rattle.signed_readings.proofs.Score.{finds-score}
+use Rattle.signed_readings.proofs.decode.Statement.{statement}
+use Rattle.signed_readings.proofs.decode.Tie as tie
+
+forward-requires : tie.Need-forward-requires
+forward-requires c κs =
+    let start : tie.Start = search in
+    let ready = start .pre .shaped in
+    record {
+      shaped =
+          record {
+            shape = ready .shape;
+            compiled = ready .compiled;
+            pattern = ready .pattern;
+            few = omega (arith, ready .few, ready .shape .held .narrow);
+            room = ready .rows;
+          };
+      bytes = start .pre .bytes;
+    }
+
+trace-requires : tie.Need-trace-requires
+trace-requires c κs =
+    let ran : tie.After-forward = search in
+    let start : tie.Start = search in
+    way-walkable (start .pre .shaped) (ran .forward .ensures .ran) (omega (arith, some-states (start .pre .shaped .shape)))
+
+returns : tie.Need-returns
+returns c =
+    let traced : tie.After-trace = search in
+    let ran : tie.After-forward = search in
+    let start : tie.Start = search in
+    let ready = start .pre .shaped in
+    finds-score (ready .shape .held .some) (omega (arith, ready .few, ready .shape .held .narrow)) (ran .forward .ensures .near)
+    (way-finds ready (ran .forward .ensures .ran) (traced .trace .ensures))
+
+pub decode-spec : {M : Type 1} → statement M
+decode-spec =
+    tie.close (tie.spec (search needs) forward-requires trace-requires (search needs) (search needs) returns)
