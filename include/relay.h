@@ -34,7 +34,7 @@
  * An accepted call writes the front of out and scratch, as said below, and leaves what lies beyond as it was. Nothing
  * has to be cleared before. A longer buffer than needed is no refusal. No two buffers of a call may overlap, and each
  * must have the length given: a door cannot test these. A pointer may be null where the length is 0. The doors keep no
- * state and take no memory but the stack, relay_decode some 34 kB of it, relay_decode_signed some 1 kB.
+ * state and take no memory but the stack, some 1 kB of it, however long the lists are.
  */
 #ifndef RELAY_H
 #define RELAY_H

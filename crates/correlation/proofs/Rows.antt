@@ -17,12 +17,25 @@ use Rattle.trellis.specs.Keep.{Keep}
 use Rattle.trellis.specs.Inner.{Halved}
 use Rattle.correlation.specs.Arithmetic.{Kind}
 use Rattle.correlation.specs.Decode.{froms, word, score}
-use Rattle.correlation.specs.Inner.{Runs, Decodable, Finds}
+use Rattle.correlation.specs.Inner.{Runnable, Runs, Decodable, Finds}
 use Rattle.correlation.proofs.Steps.{filled-by}
 
 -- there is a state 0, and a state 1
 pub some-states : {code : ConvCode} {half : ℕ} → Halved code half → 1 < 2 * half
 some-states {code} shape = omega (arith, pow-pos (code .width - 1), shape .halved)
+
+-- what a decoding is given has room for its steps
+pub decodable-runnable :
+    {code : ConvCode} {half : ℕ} {keep : KeepPattern} {info : ℕ} {out scratch : List ℕ} →
+    Decodable code half keep info out scratch → Runnable code half keep (stepsOf code info) scratch
+decodable-runnable ready =
+    record {
+      shape = ready .shape;
+      compiled = ready .compiled;
+      pattern = ready .pattern;
+      few = omega (arith, ready .few, ready .shape .held .narrow);
+      room = ready .rows;
+    }
 
 -- what a decoding is given, and what its steps leave
 module _

@@ -23,7 +23,7 @@ use Rattle.trellis.specs.Keep.{Keep, keeps0, keeps1, codedLength}
 use Rattle.trellis.specs.Places.{valueOf, filled, place0, place1}
 use Rattle.trellis.specs.Inner.{Rows, Halved, Crossed}
 use Rattle.trellis.proofs.Columns.{rows-pattern, keeps0-column, keeps1-column, column-next}
-use Rattle.trellis.proofs.Kept.{one, coded-suc, coded-le}
+use Rattle.trellis.proofs.Kept.{one, coded-suc, coded-le, coded-mono}
 use Rattle.trellis.proofs.States.{states-two-halves}
 use Rattle.correlation.specs.Arithmetic.{Kind}
 use Rattle.correlation.specs.Gain.{brings, read0, read1, gain, newMets, newFroms}
@@ -182,6 +182,25 @@ module _
     row-few =
         let turns = mul-le-mul-right (2 * half) (le-trans h (now .ready .few)) in
         omega (arith, now .place, suc-mul t (2 * half), turns, shape .few)
+
+    -- what it reads is among what all steps read
+    step-used : at + (one first + one second) ≤ codedLength p steps
+    step-used =
+        let good = rows-pattern keep pattern in
+        omega (
+          arith,
+          now .behind,
+          ap one first-kept,
+          ap one second-kept,
+          coded-suc p good t,
+          coded-mono p good (suc t) steps h,
+        )
+
+    pub first-used : first ≡ true → at < codedLength p steps
+    first-used e = omega (arith, step-used, ap one e)
+
+    pub second-used : {middle : ℕ} → middle ≡ at + one first → second ≡ true → middle < codedLength p steps
+    second-used of-middle e = omega (arith, step-used, of-middle, ap one e)
 
     -- what a place of it reads
     abbrev reads : Bool → ℕ → A

@@ -11,7 +11,7 @@ use Rattle.trellis.specs.declared.ConvCode.{ConvCode}
 use Rattle.trellis.specs.declared.KeepPattern.{KeepPattern}
 use Rattle.trellis.specs.Choice.{k7, codeOf, patternOf}
 use Rattle.trellis.specs.Codeword.{stepsOf}
-use Rattle.trellis.specs.Keep.{Keep}
+use Rattle.trellis.specs.Keep.{Keep, codedLength}
 use Rattle.trellis.specs.Inner.{Chooses, Rows, Halved, Crossed}
 use Rattle.correlation.specs.Arithmetic.{Kind}
 use Rattle.correlation.specs.Gain.{newMets, newFroms}
@@ -99,6 +99,10 @@ pub record UsedOf (need count used : ℕ) : Type 0 where
   pub short : count < need → used ≡ count
   pub enough : need ≤ count → used ≡ need
   pub few : used ≤ 65536
+
+-- the readings that so many steps use, of which each is as asked; d stands for one that is missing
+pub record UsedEach {A : Type 0} (Asked : A → Type 0) (d : A) (p : Keep) (steps : ℕ) (readings : List A) : Type 0 where
+  pub each : (i : ℕ) → i < codedLength p steps → Asked (getD readings i d)
 
 -- ---- before the readings are looked at
 

@@ -10,8 +10,10 @@ use Rattle.f32_answers.proofs.first_beyond.Reads as first-beyond
 pub word-number-once : (κs answer : _) → Once (λ (r : ℕ). word-number.Post κs (answer, tt) r (answer, tt))
 word-number-once κs answer r r' p q = p ∙ sym q
 
-pub first-bad-once : (κs readings : _) → Once (λ (r : ℕ). first-bad.Post κs (readings, tt) r (readings, tt))
-first-bad-once κs readings r r' p q = p ∙ sym q
+pub first-bad-once :
+    (κs floats bytes used : _) →
+    Once (λ (r : ℕ). first-bad.Post κs (floats, (bytes, (used, tt))) r (floats, (bytes, (used, tt))))
+first-bad-once κs floats bytes used r r' p q = p ∙ sym q
 
 pub first-beyond-once : (κs components : _) → Once (λ (r : ℕ). first-beyond.Post κs (components, tt) r (components, tt))
 first-beyond-once κs components r r' p q = p ∙ sym q

@@ -1,6 +1,8 @@
 // Answers that carry an f32, and the place of refusals 6 and 7, which are about f32s.
 ghost use mathlib.Core.Path.{_≡_};
-ghost use Rattle.f32s.specs.Single.{finite, within};
+ghost use Prim.Native.Nat.{_≤_};
+ghost use lib.ListN.{length, take};
+ghost use Rattle.f32s.specs.Single.{finite, within, valuesIn, valuesLent};
 ghost use Rattle.refusal.specs.First.{firstBad};
 ghost use Rattle.f32_answers.specs.Answer.{wordSaid, ScoreNumbers};
 use refusal::Refusal;
@@ -22,13 +24,14 @@ pub fn word_number(answer: Decoded) -> u64
     }
 }
 
-// The place of refusal 6: the index of the first reading that is NaN or infinite, and the length where none is.
-pub fn first_bad(readings: &[f32]) -> usize
-    ensures { λ r. ⌜ r ≡ firstBad finite (now (readings .entry)) ⌝ }
+// The place of refusal 6: the index of the first of the used readings that is NaN or infinite, and their number where
+// none is. The readings are those of floats and, behind them, those of bytes.
+pub fn first_bad(floats: &[f32], bytes: &[u8], used: usize) -> usize
+    requires { ⌜ used ≤ length (valuesIn (now floats) (now bytes)) ⌝ }
+    ensures { λ r. ⌜ r ≡ firstBad finite (take used (valuesLent floats bytes)) ⌝ }
 {
-    let used = readings.len();
     for i in 0..used {
-        let good = f32s::is_finite(readings[i]);
+        let good = f32s::is_finite_in(floats, bytes, i);
         if !good {
             return i;
         }

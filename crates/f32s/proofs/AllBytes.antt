@@ -1,14 +1,14 @@
--- The f32s of many bytes, one by one, and the loop that stores them. Assumes nothing.
+-- The f32s of many bytes, one by one, by themselves and behind others, and the loop that stores them. Assumes nothing.
 use mathlib.Core.List.{List, [], _∷_, _++_}
 use mathlib.Core.Path.{_≡_, refl, sym, ap, ap₂, _∙_}
-use Prim.Native.Nat.{ℕ, zero, suc, _+_, _*_, _/_, _≤_, _<_, min}
+use Prim.Native.Nat.{ℕ, zero, suc, _+_, _-_, _*_, _/_, _≤_, _<_, min}
 use native.Mathlib.Numerals.{add-one}
 use native.Mathlib.Nat.{zero-add}
 use native.Mathlib.Omega.{arith}
 use lib.Ieee.{Float, nan}
-use lib.ListN.{length, getD, set, take, drop, length-take, length-set}
-use lib.Seq.{getD-take, take-length, paste, paste-suc, paste-zero, length-paste}
-use Rattle.f32s.specs.Single.{ofBytes, allOfBytes}
+use lib.ListN.{length, getD, set, take, drop, length-append, length-take, length-set, List·getD-append, List·getD-eq-default}
+use lib.Seq.{getD-append-add, getD-take, take-length, paste, paste-suc, paste-zero}
+use Rattle.f32s.specs.Single.{ofBytes, allOfBytes, valuesIn}
 use Rattle.f32s.specs.Inner.{Fills}
 
 pub length-all : (bytes : List ℕ) → length (allOfBytes bytes) ≡ length bytes / 4
@@ -40,14 +40,43 @@ module _ (b0 b1 b2 b3 : ℕ) (rest : List ℕ) where
         past-four (of + 3) (at + 3) (omega arith),
       )
 
-pub value-at : (bytes : List ℕ) (i : ℕ) → i < length bytes / 4 → valueAt bytes (4 * i) ≡ getD (allOfBytes bytes) i nan
+-- what a read past the end would give, d, is not seen
+pub value-at : (d : Float) (bytes : List ℕ) (i : ℕ) → i < length bytes / 4 → valueAt bytes (4 * i) ≡ getD (allOfBytes bytes) i d
 unfolding allOfBytes
-value-at [] i h = absurd (omega arith)
-value-at (b0 ∷ []) i h = absurd (omega arith)
-value-at (b0 ∷ b1 ∷ []) i h = absurd (omega arith)
-value-at (b0 ∷ b1 ∷ b2 ∷ []) i h = absurd (omega arith)
-value-at (b0 ∷ b1 ∷ b2 ∷ b3 ∷ rest) zero h = refl
-value-at (b0 ∷ b1 ∷ b2 ∷ b3 ∷ rest) (suc i) h = later-value b0 b1 b2 b3 rest i ∙ value-at rest i (omega arith)
+value-at d [] i h = absurd (omega arith)
+value-at d (b0 ∷ []) i h = absurd (omega arith)
+value-at d (b0 ∷ b1 ∷ []) i h = absurd (omega arith)
+value-at d (b0 ∷ b1 ∷ b2 ∷ []) i h = absurd (omega arith)
+value-at d (b0 ∷ b1 ∷ b2 ∷ b3 ∷ rest) zero h = refl
+value-at d (b0 ∷ b1 ∷ b2 ∷ b3 ∷ rest) (suc i) h = later-value b0 b1 b2 b3 rest i ∙ value-at d rest i (omega arith)
+
+-- ---- behind others
+
+default-unseen : (xs : List Float) (i : ℕ) (d d' : Float) → i < length xs → getD xs i d ≡ getD xs i d'
+default-unseen [] i d d' h = absurd (omega (arith, h))
+default-unseen (x ∷ xs) zero d d' h = refl
+default-unseen (x ∷ xs) (suc i) d d' h = default-unseen xs i d d' (omega arith)
+
+pub length-values : (floats : List Float) (bytes : List ℕ) → length (valuesIn floats bytes) ≡ length floats + length bytes / 4
+length-values floats bytes = length-append floats (allOfBytes bytes) ∙ ap (λ (n : ℕ). length floats + n) (length-all bytes)
+
+-- the value of a number, by the tests of the code
+module _ (floats : List Float) (bytes : List ℕ) (i : ℕ) (d : Float) where
+  abbrev value : Float
+  value = getD (valuesIn floats bytes) i d
+
+  pub value-before : (d' : Float) → i < length floats → getD floats i d' ≡ value
+  value-before d' h = default-unseen floats i d' d h ∙ sym (List·getD-append floats (allOfBytes bytes) d i h)
+
+  pub value-behind : length floats ≤ i → {j : ℕ} → j ≡ i - length floats → j < length bytes / 4 → valueAt bytes (4 * j) ≡ value
+  value-behind past {j} e h =
+      let here : length floats + j ≡ i = omega (arith, e) in
+      value-at d bytes j h
+      ∙ sym (getD-append-add floats (allOfBytes bytes) j d)
+      ∙ ap (λ (n : ℕ). getD (valuesIn floats bytes) n d) here
+
+  pub value-missing : length floats + length bytes / 4 ≤ i → d ≡ value
+  value-missing h = sym (List·getD-eq-default (valuesIn floats bytes) d (omega (arith, h, length-values floats bytes)))
 
 -- ---- the loop: after i turns the first i values stand at the front, and the rest is as it was
 
@@ -80,7 +109,7 @@ module _
       Copied bytes old count values' (i + 1)
   copied-goes-on h {x} e {values'} f =
       let value : x ≡ getD (new bytes old) i nan =
-      e ∙ value-at bytes i (omega (arith, counted)) ∙ sym (getD-take (length old) (allOfBytes bytes) i nan (omega (arith, counted))) in
+      e ∙ value-at nan bytes i (omega (arith, counted)) ∙ sym (getD-take (length old) (allOfBytes bytes) i nan (omega (arith, counted))) in
       record {
         turns = omega arith;
         size = rw f (simp length-set (now .size));

@@ -5,8 +5,9 @@ use Rattle.refusal.proofs.Determined.{OnceLeft}
 use Rattle.forward.proofs.forward.Reads as forward
 
 pub runs-once :
-    (κs code half keep readings steps rows : _) →
+    (κs code half keep floats bytes steps rows : _) →
     OnceLeft (λ r left.
-    forward.Post κs (code, (half, (keep, (readings, (steps, (rows, tt)))))) r (code, (half, (keep, (readings, (steps, (left, tt)))))))
-runs-once κs code half keep readings steps rows r r' left left' p q =
+    forward.Post κs (code, (half, (keep, (floats, (bytes, (steps, (rows, tt))))))) r
+    (code, (half, (keep, (floats, (bytes, (steps, (left, tt))))))))
+runs-once κs code half keep floats bytes steps rows r r' left left' p q =
     (p .last ∙ sym (q .last), p .survivors ∙ sym (q .survivors))

@@ -2,11 +2,12 @@
 ghost use mathlib.Core.Path.{_≡_};
 ghost use Prim.Native.Nat.{_*_};
 ghost use lib.Dec.{eqb};
-ghost use Rattle.correlation.specs.Inner.{Steppable, SteppableOf, Runnable};
+ghost use Rattle.correlation.specs.Inner.{Steppable, SteppableOf};
+ghost use Rattle.f32s.specs.Single.{valuesIn, valuesLent};
 ghost use Rattle.refusal.specs.Lent.{lent};
 ghost use Rattle.trellis.specs.Choice.{keepOf};
 ghost use Rattle.trellis.specs.Places.{filled};
-ghost use Rattle.forward.specs.Inner.{Selects, Runs};
+ghost use Rattle.forward.specs.Inner.{Selects, KeptFinite, Runnable, Runs};
 ghost use Rattle.forward.specs.Sums.{valueOf};
 use butterflies::largest::MARK;
 use butterflies::largest::butterfly;
@@ -72,28 +73,30 @@ fn step_of(
 }
 
 // The reading of a place: 0.0 where it was deleted or is missing.
-fn value_at(column: u8, readings: &[f32], at: usize) -> f32
-    ensures { λ r. ⌜ r ≡ valueOf (filled (eqb column 1) (now (readings .entry)) at) ⌝ }
+fn value_at(column: u8, floats: &[f32], bytes: &[u8], at: usize) -> f32
+    requires { ⌜ KeptFinite column (valuesIn (now floats) (now bytes)) at ⌝ }
+    ensures { λ r. ⌜ r ≡ valueOf (filled (eqb column 1) (valuesLent floats bytes) at) ⌝ }
 {
     if column == 1 {
-        if at < readings.len() {
-            return readings[at];
-        }
+        f32s::finite_in(floats, bytes, at)
+    } else {
+        0.0
     }
-    0.0
 }
 
-// All steps, from state 0. The survivors of each go to a row of rows; answers state 0's last metric.
+// All steps, from state 0. The readings are those of floats and, behind them, those of bytes, four bytes each. The
+// survivors of each step go to a row of rows; answers state 0's last metric.
 pub fn forward(
     code: ConvCode,
     half: usize,
     keep: KeepPattern,
-    readings: &[f32],
+    floats: &[f32],
+    bytes: &[u8],
     steps: usize,
     rows: &mut [u8],
 ) -> f32
-    requires { ⌜ Runnable code half keep steps (now rows) ⌝ }
-    ensures { λ r. ⌜ Runs code (keepOf keep) (2 * half) steps (now (readings .entry)) r (lent rows) ⌝ }
+    requires { ⌜ Runnable code half keep (valuesIn (now floats) (now bytes)) steps (now rows) ⌝ }
+    ensures { λ r. ⌜ Runs code (keepOf keep) (2 * half) steps (valuesLent floats bytes) r (lent rows) ⌝ }
 {
     let sent = trellis::sent_by_even(code, half);
     let c0 = sent.c0;
@@ -109,9 +112,9 @@ pub fn forward(
     let mut at = 0;
     let mut to = 0;
     for t in 0..steps {
-        let a = value_at(row0[column], readings, at);
+        let a = value_at(row0[column], floats, bytes, at);
         at = correlation::after(row0[column], at);
-        let b = value_at(row1[column], readings, at);
+        let b = value_at(row1[column], floats, bytes, at);
         at = correlation::after(row1[column], at);
         step_of(code, half, &c0, &c1, a, b, &pm, &mut next, &mut rows[to..]);
         pm = next;

@@ -1,3 +1,5 @@
--- Surplus: readings behind those that are used have no part in the answer. Unique: each contract allows one outcome at most.
+-- Used: the readings that are used are finite. Surplus: readings behind those have no part in the answer. Unique: each contract allows
+-- one outcome at most.
+pub mod Used
 pub mod Surplus
 pub mod Unique

@@ -1,31 +1,27 @@
 -- Surplus readings have no part in an answer: cut off behind those that may be used, the readings give the same answer and leave
 -- the same buffers. Assumes nothing.
-use mathlib.Core.List.{List, _++_}
-use mathlib.Core.Path.{_≡_, sym, ap, _∙_}
+use mathlib.Core.List.{List}
+use mathlib.Core.Path.{_≡_, ap, _∙_}
 use Prim.Native.Nat.{ℕ, _≤_}
-use native.Mathlib.Nat.{le-refl}
 use native.Mathlib.Omega.{arith}
 use lib.Ieee.{Float}
-use lib.ListN.{length, take, drop, replicate, length-append, length-replicate}
-use lib.Seq.{take-take, take-at}
+use lib.ListN.{take}
+use lib.Seq.{take-take}
 use Rattle.correlation.proofs.Limit.{limit-answers, limit-leaves}
 use Rattle.correlation.proofs.Surplus.{rows-taken, word-taken, score-taken}
 use Rattle.correlation.proofs.Used.{length-few}
 use Rattle.encoder.specs.Encode.{codedLengthOf}
-use Rattle.f32s.specs.Single.{zero32, finite}
+use Rattle.f32s.specs.Single.{finite}
 use Rattle.forward.specs.Decode.{word, filledRows}
 use Rattle.forward.specs.Sums.{soft}
 use Rattle.refusal.specs.Answer.{Said}
 use Rattle.refusal.specs.Limits.{most}
 use Rattle.refusal.specs.Numbers.{badReading}
-use Rattle.refusal.specs.Lent.{leaves, Lent}
+use Rattle.refusal.specs.Lent.{leaves}
 use Rattle.trellis.specs.Choice.{codeOf, patternOf}
 use Rattle.trellis.specs.Codeword.{stepsOf}
 use Rattle.trellis.proofs.Chosen.{rate-pattern}
-use Rattle.readings.specs.Promise.{Decodes}
 use Rattle.readings.specs.Said.{mostReadings, decodeSaid}
-
--- ---- by the numbers of the code and the rate
 
 module _ (code rate info : ℕ) (readings : List Float) (room scratch n : ℕ) (enough : mostReadings ≤ n) where
   within : info ≤ most → codedLengthOf code rate info ≤ n
@@ -64,34 +60,3 @@ module _ (code rate info : ℕ) (readings : List Float) (room scratch n : ℕ) (
   surplus-scratch old =
       let steps = stepsOf (codeOf code) info in
       surplus-leaves _ _ old (λ h. rows-taken soft (codeOf code) (patternOf code rate) (rate-pattern code rate) readings n steps (within h))
-
--- ---- as they come from bytes, to a list with room for those that may be used
-
-abbrev room-for-all : List Float
-room-for-all = replicate mostReadings zero32
-
-module _
-    (all values : List Float) (count : ℕ) (counted : count ≡ length (take (length room-for-all) all))
-    (front : values ≡ take (length room-for-all) all ++ drop count room-for-all) where
-  pub front-within : count ≤ length values
-  front-within = omega (arith, counted, ap length front, length-append (take (length room-for-all) all) (drop count room-for-all))
-
-  front-taken : take count values ≡ take mostReadings all
-  front-taken =
-      ap (take count) front ∙ take-at _ (drop count room-for-all) count (sym counted)
-      ∙ ap (λ (n : ℕ). take n all) (length-replicate mostReadings zero32)
-
-  -- so what is promised of the front is promised of all of them
-  pub front-decodes :
-      (code rate info : ℕ) {Answers : Said Float → Type 0} {out scratch : Lent ℕ} →
-      Decodes Answers code rate info (take count values) out scratch → Decodes Answers code rate info all out scratch
-  front-decodes code rate info {Answers} {out} {scratch} promised =
-      let room = length (out .given) in
-      let work = length (scratch .given) in
-      let enough = le-refl mostReadings in
-      let taken = rw front-taken at promised in
-      record {
-        answer = rw (surplus-said code rate info all room work mostReadings enough) at (taken .answer);
-        output = taken .output ∙ surplus-output code rate info all room work mostReadings enough (out .given);
-        scratch = taken .scratch ∙ surplus-scratch code rate info all room work mostReadings enough (scratch .given);
-      }

@@ -15,17 +15,15 @@ use mir.Syntax.{w32}
 use mir.Val.{SFits, toZ, ofZ}
 use Rattle.best_path.specs.Path.{Total, none, total}
 use Rattle.correlation.specs.Whole.{exactly}
-use Rattle.correlation.proofs.Steps.{Forwarded, forwarded-starts, forwarded-goes-on, forwarded-ends, both-read}
+use Rattle.correlation.proofs.Steps.{Forwarded, forwarded-starts, forwarded-goes-on, forwarded-ends, first-used, second-used}
 use Rattle.signed_butterflies.specs.Held.{Byte, Near, totalOf}
 use Rattle.signed_butterflies.proofs.Words.{small-fits, back}
 use Rattle.trellis.specs.declared.ConvCode.{ConvCode}
 use Rattle.trellis.specs.declared.KeepPattern.{KeepPattern}
 use Rattle.trellis.specs.Choice.{keepOf}
-use Rattle.trellis.specs.Keep.{codedLength}
 use Rattle.trellis.specs.Places.{valueOf, filled}
 use Rattle.trellis.specs.Inner.{Crossed}
-use Rattle.trellis.proofs.Columns.{rows-pattern}
-use Rattle.trellis.proofs.Kept.{one, coded-mono}
+use Rattle.trellis.proofs.Kept.{one}
 use Rattle.trellis.proofs.Places.{reading-value}
 use Rattle.trellis.proofs.States.{states-two-halves}
 use Rattle.signed_forward.specs.Inner.{mark, AllNear, Steps, UsedBytes, Runnable, Runs}
@@ -142,18 +140,13 @@ module _
     module _
         {a b : ℤ} {middle end : ℕ} (of-a : a ≡ valueOf (pos 0) (filled first readings at)) (of-middle : middle ≡ at + one first)
         (of-b : b ≡ valueOf (pos 0) (filled second readings middle)) (of-end : end ≡ middle + one second) where
-      used : end ≤ codedLength (keepOf keep) steps
-      used =
-          let ends = both-read (now .forwarded) h of-a of-middle of-b of-end in
-          omega (arith, ends, coded-mono (keepOf keep) (rows-pattern keep (now .forwarded .ready .pattern)) (t + 1) steps (omega arith))
-
       pub first-byte : Byte a
       first-byte =
-          rw of-a (value-byte readings at first (λ e. now .bytes .each at (omega (arith, used, of-middle, of-end, ap one e))))
+          rw of-a (value-byte readings at first (λ e. now .bytes .each at (first-used (now .forwarded) h e)))
 
       pub second-byte : Byte b
       second-byte =
-          rw of-b (value-byte readings middle second (λ e. now .bytes .each middle (omega (arith, used, of-end, ap one e))))
+          rw of-b (value-byte readings middle second (λ e. now .bytes .each middle (second-used (now .forwarded) h of-middle e)))
 
       pub held-goes-on :
           {next next' : List ℤ} {part : List ℕ} {column' to' : ℕ} →

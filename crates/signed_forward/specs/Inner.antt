@@ -12,7 +12,7 @@ use Rattle.signed_butterflies.specs.Held.{Byte, Near, totalOf}
 use Rattle.trellis.specs.declared.ConvCode.{ConvCode}
 use Rattle.trellis.specs.declared.KeepPattern.{KeepPattern}
 use Rattle.trellis.specs.Choice.{keepOf}
-use Rattle.trellis.specs.Keep.{Keep, codedLength}
+use Rattle.trellis.specs.Keep.{Keep}
 
 -- ---- metrics as the code holds them
 
@@ -55,8 +55,8 @@ pub record Steps (code : ConvCode) (pm : List ℤ) (a b : ℤ) (next : Lent ℤ)
 -- ---- all steps
 
 -- the readings that so many steps use: each from −127 to 127
-pub record UsedBytes (p : Keep) (steps : ℕ) (readings : List ℤ) : Type 0 where
-  pub each : (i : ℕ) → i < codedLength p steps → Byte (getD readings i (pos 0))
+abbrev pub UsedBytes : (p : Keep) (steps : ℕ) (readings : List ℤ) → Type 0
+UsedBytes p steps readings = any.UsedEach Byte (pos 0) p steps readings
 
 -- `forward`
 pub record Runnable

@@ -2,26 +2,23 @@
 use mathlib.Core.List.{List}
 use mathlib.Core.Path.{_≡_, ap, _∙_}
 use Prim.Native.Nat.{ℕ, _*_, _≤_, _<_}
-use native.Mathlib.Decide.{decLt}
 use native.Mathlib.Omega.{arith}
 use lib.IntN.{ℤ, pos, natAbs}
-use lib.ListN.{length, getD, take, List·getD-eq-default}
-use lib.Seq.{getD-take}
+use lib.ListN.{length, take}
 use mir.Syntax.{w32}
 use mir.Val.{toZ, ofZ}
 use Rattle.best_path.specs.Path.{Total, total}
 use Rattle.correlation.specs.declared.Prepared.{Prepared}
 use Rattle.correlation.specs.Inner.{Prepares}
 use Rattle.correlation.proofs.Checks.{call-few}
-use Rattle.encoder.specs.Encode.{codedLengthOf}
-use Rattle.encoder.proofs.Selected.{chosen-narrow, length-chosen}
+use Rattle.correlation.proofs.Used.{used-each}
+use Rattle.encoder.proofs.Selected.{chosen-narrow}
 use Rattle.refusal.specs.Answer.{accepted}
 use Rattle.signed_butterflies.specs.Held.{Byte}
 use Rattle.signed_butterflies.proofs.Words.{small-fits, back}
 use Rattle.signed_forward.specs.Inner.{UsedBytes}
 use Rattle.trellis.specs.Choice.{keepOf}
 use Rattle.trellis.specs.Codeword.{stepsOf}
-use Rattle.trellis.specs.Keep.{codedLength}
 use Rattle.signed_readings.specs.Inner.{FirstLow}
 use Rattle.signed_readings.specs.Said.{countOf}
 
@@ -29,33 +26,13 @@ use Rattle.signed_readings.specs.Said.{countOf}
 module _
     {code rate info room scratch : ℕ} (readings : List ℤ) {r : Prepared}
     (ready : Prepares code rate info (length readings) room scratch r) (none : r .number ≡ 0) where
-  abbrev steps : ℕ
-  steps = stepsOf (r .chosen .code) info
-
-  need : codedLength (keepOf (r .chosen .keep)) steps ≡ codedLengthOf code rate info
-  need = length-chosen (ready .chosen) info
-
-  -- behind the last used one none is read
-  past : (i : ℕ) → i < codedLengthOf code rate info → (i < r .used → ⊥) → length readings ≤ i
-  past i h more =
-      let is = ready .used none in
-      elim (decLt (length readings) (codedLengthOf code rate info)) [
-        | yes short ↦ omega (arith, is .short short, more)
-        | no enough ↦ absurd (omega (arith, is .enough (omega arith), more, h))
-      ]
-
   -- where none of the used ones is −128, each is from −127 to 127
   pub used-bytes :
-      {low : ℕ} → FirstLow (take (r .used) readings) low → r .used ≤ low → UsedBytes (keepOf (r .chosen .keep)) steps readings
-  used-bytes {low} found all = record { each = each }
-    where
-      each : (i : ℕ) → i < codedLength (keepOf (r .chosen .keep)) steps → Byte (getD readings i (pos 0))
-      each i h =
-          elim (decLt i (r .used)) [
-            | yes less ↦ rw (← getD-take (r .used) readings i (pos 0) less) (found .bytes i (omega (arith, less, all)))
-            | no more ↦
-                rw (List·getD-eq-default readings (pos 0) (past i (omega (arith, h, need)) more)) (record { small = omega arith })
-          ]
+      {low : ℕ} → FirstLow (take (r .used) readings) low → r .used ≤ low →
+      UsedBytes (keepOf (r .chosen .keep)) (stepsOf (r .chosen .code) info) readings
+  used-bytes {low} found all =
+      used-each Byte (pos 0) code rate info readings (ready .chosen) (ready .used none) (record { small = omega arith })
+      (λ i h. found .bytes i (omega (arith, h, all)))
 
 -- and no sum is too large for 32 bits
 pub sums-fit :

@@ -1,6 +1,6 @@
--- The four costs of a symbol by the phasor table as the code holds it; a coded pair's cost, picked by tests from the four, and the
--- opposite pair's. Assumes nothing.
-use mathlib.Core.Path.{_≡_}
+-- The phasor table as the code holds it; a coded pair's cost, picked by tests from the four of a symbol, and the opposite pair's.
+-- Assumes nothing.
+use mathlib.Core.Path.{_≡_, refl}
 use Prim.Native.Nat.{ℕ, zero, suc, _-_, _<_}
 use native.Mathlib.Omega.{arith}
 use lib.Ieee.{Float, binary32, ofBits, neg}
@@ -10,16 +10,13 @@ use Rattle.symbols.specs.Inner.{Priced, pairCost}
 use Rattle.symbols.specs.declared.phasors.Prices.{Prices}
 
 -- the phasors of 01 and 11 have a -1, which the code holds as its bits
-module _ (re im : Float) {price : Float} where
-  pub price-01 :
-      price ≡ cost re im (record { re = zero32; im = ofBits binary32 0xbf80_0000 }) → price ≡ cost re im (phasorOf 0 1)
-  unfolding ofBits neg
-  price-01 e = e
+pub phasor-01 : record { re = zero32; im = ofBits binary32 0xbf80_0000 } ≡ phasorOf 0 1
+unfolding ofBits neg
+phasor-01 = refl
 
-  pub price-11 :
-      price ≡ cost re im (record { re = ofBits binary32 0xbf80_0000; im = zero32 }) → price ≡ cost re im (phasorOf 1 1)
-  unfolding ofBits neg
-  price-11 e = e
+pub phasor-11 : record { re = ofBits binary32 0xbf80_0000; im = zero32 } ≡ phasorOf 1 1
+unfolding ofBits neg
+phasor-11 = refl
 
 module _ (re im : Float) (r : Prices) (priced : Priced re im r) where
   pub pair-cost :

@@ -1,6 +1,5 @@
 -- The code that the entries run is K5, of as many states as the step is for. Assumes nothing.
 use mathlib.Core.Path.{_≡_, refl}
-use Prim.Native.Nat.{ℕ}
 use lib.Dec.{lit≤}
 use Rattle.trellis.specs.declared.ConvCode.{ConvCode}
 use Rattle.trellis.specs.Choice.{k5, codeOf}
@@ -12,6 +11,6 @@ pub chosen-k5 : {code : ConvCode} → code ≡ codeOf 0 → code ≡ k5
 unfolding codeOf
 chosen-k5 e = e
 
-pub k5-halved : {code : ConvCode} → code ≡ codeOf 0 → Halved code half
+pub k5-halved : Halved k5 half
 unfolding codeOf
-k5-halved e = rw e (record { held = code-narrow 0; few = lit≤ tt; halved = refl; ends = code-ends 0 })
+k5-halved = record { held = code-narrow 0; few = lit≤ tt; halved = refl; ends = code-ends 0 }

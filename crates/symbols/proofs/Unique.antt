@@ -37,6 +37,7 @@ pub first-least-once : (κs pm : _) → Once (λ (r : ℕ). first-least.Post κs
 first-least-once κs pm r r' p q = p ∙ sym q
 
 pub runs-once :
-    (κs code soft count rows : _) →
-    OnceLeft (λ r left. forward.Post κs (code, (soft, (count, (rows, tt)))) r (code, (soft, (count, (left, tt)))))
-runs-once κs code soft count rows r r' left left' p q = (p .last ∙ sym (q .last), p .survivors ∙ sym (q .survivors))
+    (κs code soft bits count rows : _) →
+    OnceLeft (λ r left.
+    forward.Post κs (code, (soft, (bits, (count, (rows, tt))))) r (code, (soft, (bits, (count, (left, tt))))))
+runs-once κs code soft bits count rows r r' left left' p q = (p .last ∙ sym (q .last), p .survivors ∙ sym (q .survivors))

@@ -3,18 +3,21 @@ use mathlib.Core.Bool.{true, false, cond}
 use mathlib.Core.List.{List, _++_, map}
 use mathlib.Core.Path.{_≡_}
 use Prim.Native.Nat.{ℕ, zero, suc, _+_, _*_, _^_, _≤_, _<_}
-use lib.Dec.{eqb}
+use lib.Dec.{eqb, ltb}
 use lib.Ieee.{Float, nan, inf, lt}
 use lib.ListN.{length, getD, drop}
 use Rattle.best_path.specs.Step.{Cell, step}
 use Rattle.refusal.specs.Lent.{Lent}
 use Rattle.refusal.specs.Limits.{most}
+use Rattle.refusal.specs.Numbers.{tooMany, shortOutput, shortScratch}
 use Rattle.trellis.specs.declared.ConvCode.{ConvCode}
+use Rattle.trellis.specs.Choice.{k5}
 use Rattle.trellis.specs.Inner.{Halved, Crossed}
 use Rattle.butterflies.specs.Smallest.{mark, smallest}
 use Rattle.symbols.specs.Costs.{cost, costs, phasorOf}
 use Rattle.symbols.specs.Decode.{firstLeast, mets, word, filledRows}
-use Rattle.symbols.specs.Said.{symbolsIn, phasorsOf}
+use Rattle.symbols.specs.Said.{phasorsOf}
+use Rattle.symbols.specs.declared.phasors.Phasor.{Phasor}
 use Rattle.symbols.specs.declared.phasors.Prices.{Prices}
 use Rattle.symbols.specs.declared.forward_pass.Placed.{Placed}
 
@@ -77,13 +80,29 @@ pub record LeastIn (pm : List Float) (lo n : ℕ) (r : Placed) : Type 0 where
   pub none-smaller : (s : ℕ) → lo ≤ s → s < lo + n → lt (comparedIn pm s) (r .met) ≡ false
   pub earlier-larger : (s : ℕ) → lo ≤ s → s < r .state → lt (r .met) (comparedIn pm s) ≡ true
 
+-- ---- where the symbols are
+
+-- The components of a decoding: those at hand, and behind them the phasors of hard bits. A caller has only the one or
+-- the other.
+abbrev pub components : List Float → List ℕ → List Float
+components soft bits = soft ++ phasorsOf bits
+
+-- so many symbols, within the limit: where there are components at hand, all of them there, else all in the hard bits
+pub record Symbols (soft : List Float) (bits : List ℕ) (count : ℕ) : Type 0 where
+  pub few : count ≤ most
+  pub at-hand : (length soft ≡ 0 → ⊥) → 2 * count ≤ length soft
+  pub in-bits : length soft ≡ 0 → 2 * count ≤ length bits
+
+-- `symbol_at`: symbol t has its re at 2t and its im behind that
+abbrev pub symbolAt : List Float → ℕ → Phasor
+symbolAt soft t = record { re = getD soft (2 * t) nan; im = getD soft (2 * t + 1) nan }
+
 -- ---- all symbols
 
 -- `forward`: a code as the step is for, as many symbols as are counted, and room for the survivors of each
-pub record Runnable (code : ConvCode) (soft : List Float) (count : ℕ) (rows : List ℕ) : Type 0 where
+pub record Runnable (code : ConvCode) (soft : List Float) (bits : List ℕ) (count : ℕ) (rows : List ℕ) : Type 0 where
   pub shape : Halved code half
-  pub few : count ≤ most
-  pub symbols : 2 * count ≤ length soft
+  pub symbols : Symbols soft bits count
   pub room : count * (2 * half) ≤ length rows
 
 -- `forward`: the first least state r, and the survivors over the front of `rows`
@@ -94,8 +113,9 @@ pub record Runs (code : ConvCode) (soft : List Float) (count r : ℕ) (rows : Le
 -- ---- the decoding
 
 -- `decode`: the same, and room for the word
-pub record Decodable (code : ConvCode) (soft : List Float) (count : ℕ) (out scratch : List ℕ) : Type 0 where
-  pub ready : Runnable code soft count scratch
+pub record Decodable
+    (code : ConvCode) (soft : List Float) (bits : List ℕ) (count : ℕ) (out scratch : List ℕ) : Type 0 where
+  pub ready : Runnable code soft bits count scratch
   pub room : count ≤ length out
 
 -- `decode`: the word over the front of `out`, and the survivors over that of `scratch`
@@ -103,13 +123,12 @@ pub record Finds (code : ConvCode) (soft : List Float) (count : ℕ) (out scratc
   pub output : out .left ≡ word code soft count ++ drop count (out .given)
   pub survivors : scratch .left ≡ filledRows code soft count ++ drop (count * 2 ^ code .width) (scratch .given)
 
--- ---- hard bits
+-- ---- the refusals that both entries share
 
--- `fill_phasors`: as many symbols as the bits have, and room for their components
-pub record Fillable (bits : List ℕ) (count : ℕ) (soft : List Float) : Type 0 where
-  pub counted : count ≡ symbolsIn bits
-  pub room : 2 * count ≤ length soft
-
--- `fill_phasors`: the phasors over the front of `soft`
-pub record Fills (bits : List ℕ) (soft : Lent Float) : Type 0 where
-  pub phasors : soft .left ≡ phasorsOf bits ++ drop (2 * symbolsIn bits) (soft .given)
+-- `refused_room`: the number of the refusal among 3 to 5 that a call earns, and 0 where it passes them
+unfoldable pub roomRefusal : (count room scratch : ℕ) → ℕ
+roomRefusal count room scratch =
+    cond (ltb most count) tooMany
+    (cond (ltb room count) shortOutput
+    (cond (ltb scratch (count * 2 ^ k5 .width)) shortScratch
+    0))

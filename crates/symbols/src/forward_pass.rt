@@ -1,13 +1,16 @@
-// All symbols from state 0: add, compare, select, with the survivors of each kept; and the first least state. For any
-// code of 16 states.
+// All symbols from state 0, each read where it lies: add, compare, select, with the survivors of each kept; and the
+// first least state. For any code of 16 states.
 ghost use mathlib.Core.Bool.{cond};
 ghost use mathlib.Core.Path.{_≡_};
 ghost use Prim.Native.Nat.{_+_, _*_, _≤_, _<_};
 ghost use lib.Ieee.{lt};
 ghost use Rattle.refusal.specs.Lent.{lent};
 ghost use Rattle.symbols.specs.Decode.{firstLeast};
-ghost use Rattle.symbols.specs.Inner.{half, Steppable, Selects, compared, LeastIn, Runnable, Runs};
+ghost use Rattle.symbols.specs.Inner.{half, Steppable, Selects, compared, LeastIn};
+ghost use Rattle.symbols.specs.Inner.{components, Symbols, symbolAt, Runnable, Runs};
+use crate::phasors::Phasor;
 use crate::phasors::cost_of_pair;
+use crate::phasors::phasor_of;
 use crate::phasors::prices_of;
 use butterflies::smallest::MARK;
 use butterflies::smallest::butterfly;
@@ -116,10 +119,26 @@ pub fn first_least(pm: &[f32; STATES]) -> usize
     least.state as usize
 }
 
+// Symbol t of those at hand as components, or where there are none, of the hard bits.
+fn symbol_at(soft: &[f32], bits: &[u8], t: usize) -> Phasor
+    requires { ⌜ Symbols (now soft) (now bits) (t + 1) ⌝ }
+    ensures { λ r. ⌜ r ≡ symbolAt (components (now (soft .entry)) (now (bits .entry))) t ⌝ }
+{
+    let at = 2 * t;
+    if soft.len() == 0 {
+        let b0 = bits[at];
+        let b1 = bits[at + 1];
+        return phasor_of(b0, b1);
+    }
+    let re = soft[at];
+    let im = soft[at + 1];
+    Phasor { re, im }
+}
+
 // All symbols, from state 0. The survivors of each go to a row of rows; answers the first least state.
-pub fn forward(code: ConvCode, soft: &[f32], count: usize, rows: &mut [u8]) -> usize
-    requires { ⌜ Runnable code (now soft) count (now rows) ⌝ }
-    ensures { λ r. ⌜ Runs code (now (soft .entry)) count r (lent rows) ⌝ }
+pub fn forward(code: ConvCode, soft: &[f32], bits: &[u8], count: usize, rows: &mut [u8]) -> usize
+    requires { ⌜ Runnable code (now soft) (now bits) count (now rows) ⌝ }
+    ensures { λ r. ⌜ Runs code (components (now (soft .entry)) (now (bits .entry))) count r (lent rows) ⌝ }
 {
     let sent = trellis::sent_by_even(code, HALF);
     let c0 = sent.c0;
@@ -129,13 +148,13 @@ pub fn forward(code: ConvCode, soft: &[f32], count: usize, rows: &mut [u8]) -> u
     let mut next = pm;
     let mut to = 0;
     for t in 0..count {
-        let at = 2 * t;
+        let symbol = symbol_at(soft, bits, t);
         step(
             code,
             &c0,
             &c1,
-            soft[at],
-            soft[at + 1],
+            symbol.re,
+            symbol.im,
             &pm,
             &mut next,
             &mut rows[to..],

@@ -1,6 +1,7 @@
-// The phasor table, and what a branch costs.
+// The phasor table, the phasor of two hard bits, and what a branch costs.
 ghost use mathlib.Core.Path.{_≡_};
-ghost use Rattle.symbols.specs.Costs.{cost};
+ghost use Prim.Native.Nat.{_%_};
+ghost use Rattle.symbols.specs.Costs.{cost, phasorOf};
 ghost use Rattle.symbols.specs.Inner.{Priced, pairCost};
 
 // A point of the constellation.
@@ -16,6 +17,18 @@ pub const PHASORS: [Phasor; 4] = [
     Phasor { re: 0.0, im: 1.0 },
     Phasor { re: -1.0, im: 0.0 },
 ];
+
+// The phasor of two hard bits, of each byte the lowest bit. By tests: an array constant that is read at a place known
+// only at run time is stored on the stack wherever it is read.
+pub fn phasor_of(b0: u8, b1: u8) -> Phasor
+    ensures { λ r. ⌜ r ≡ phasorOf (b0 % 2) (b1 % 2) ⌝ }
+{
+    if b0 % 2 == 0 {
+        if b1 % 2 == 0 { PHASORS[0] } else { PHASORS[1] }
+    } else {
+        if b1 % 2 == 0 { PHASORS[2] } else { PHASORS[3] }
+    }
+}
 
 // How far a symbol is from a phasor, squared.
 fn cost(re: f32, im: f32, at: Phasor) -> f32

@@ -53,6 +53,10 @@ module _ {A : Type 0} (nought : A) (column : ℕ) (readings : List A) (at : ℕ)
   pub reads-missing : column ≡ 1 → length readings ≤ at → nought ≡ reads (eqb column 1)
   reads-missing e h = sym (ap (valueOf nought) (reading-missing readings at h)) ∙ ap reads (sym (eq-eqb column 1 e))
 
+  -- kept, it is received or missing
+  pub reads-kept : column ≡ 1 → getD readings at nought ≡ reads (eqb column 1)
+  reads-kept e = sym (reading-value nought readings at) ∙ ap reads (sym (eq-eqb column 1 e))
+
   pub reads-deleted : (column ≡ 1 → ⊥) → nought ≡ reads (eqb column 1)
   reads-deleted e = ap reads (sym (ne-eqb column 1 e))
 

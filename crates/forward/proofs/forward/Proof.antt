@@ -2,20 +2,24 @@
 use Prim.Native.Nat.{_-_}
 use native.Mathlib.Omega.{arith}
 use borrow.Author.Needs.{needs}
+use borrow.Author.Tests.{eq-eqb}
 use lib.Ieee.{nan}
 use lib.ListN.{length-take, length-drop}
 use Rattle.correlation.proofs.Steps.{Forwarded, forwarded-starts, forwarded-goes-on, forwarded-ends}
 use Rattle.correlation.proofs.Steps.{rows-sized, column-below, column-within, reads-few, middle-few, row-within, row-few}
+use Rattle.correlation.proofs.Steps.{first-used, second-used}
+use Rattle.f32s.specs.Single.{valuesIn}
 use Rattle.forward.specs.Sums.{soft}
 use Rattle.forward.proofs.forward.Statement.{statement}
 use Rattle.forward.proofs.forward.Tie as tie
 
 abbrev Inv-loop : tie.InvT-loop
-Inv-loop code half readings steps rows₀ c0 c1 period row0 row1 states pm₀ next₀ column₀ at₀ to₀ t₀ rows pm next column at to t =
-    Forwarded soft nan code half (record { period = period; row0 = row0; row1 = row1 }) readings steps rows₀ c0 c1 rows pm column at to t
+Inv-loop code half floats bytes steps rows₀ c0 c1 period row0 row1 states pm₀ next₀ column₀ at₀ to₀ t₀ rows pm next column at to t =
+    Forwarded soft nan code half (record { period = period; row0 = row0; row1 = row1 }) (valuesIn floats bytes) steps rows₀ c0 c1
+    rows pm column at to t
 
 abbrev μ-loop : tie.MeasureT-loop
-μ-loop code half readings steps rows₀ c0 c1 period row0 row1 states pm₀ next₀ column₀ at₀ to₀ t₀ rows pm next column at to t =
+μ-loop code half floats bytes steps rows₀ c0 c1 period row0 row1 states pm₀ next₀ column₀ at₀ to₀ t₀ rows pm next column at to t =
     steps - t
 
 -- the places of a turn
@@ -43,17 +47,24 @@ Selected = tie.After-step-of Inv-loop μ-loop
 sent-by-even-requires : tie.Need-sent-by-even-requires Inv-loop μ-loop
 sent-by-even-requires c κs =
     let start : tie.Start Inv-loop μ-loop = search in
-    start .pre .shape
+    start .pre .shaped .shape
 
 loop-holds : tie.Need-loop-holds Inv-loop μ-loop
 loop-holds c =
     let coded : tie.After-sent-by-even Inv-loop μ-loop = search in
     let start : tie.Start Inv-loop μ-loop = search in
     let crossed = coded .sent-by-even .ensures .crossed in
-    forwarded-starts (start .pre) crossed
+    forwarded-starts (start .pre .shaped) crossed
 
 array-read-value-at : tie.Need-array-read-value-at Inv-loop μ-loop
 array-read-value-at c = column-within (c .before .loop .inv)
+
+value-at-requires : tie.Need-value-at-requires Inv-loop μ-loop
+value-at-requires c κs =
+    let turn : Turn = search in
+    let head : Head = search in
+    let start : tie.Start Inv-loop μ-loop = search in
+    λ kept. start .pre .used .each _ (first-used (head .loop .inv) (turn .loop-test .taken) (eq-eqb _ 1 kept))
 
 array-read-after : tie.Need-array-read-after Inv-loop μ-loop
 array-read-after c =
@@ -70,6 +81,16 @@ array-read-value-at-2 : tie.Need-array-read-value-at-2 Inv-loop μ-loop
 array-read-value-at-2 c =
     let head : Head = search in
     column-within (head .loop .inv)
+
+value-at-requires-2 : tie.Need-value-at-requires-2 Inv-loop μ-loop
+value-at-requires-2 c κs =
+    let middle : Middle = search in
+    let turn : Turn = search in
+    let head : Head = search in
+    let start : tie.Start Inv-loop μ-loop = search in
+    λ kept.
+    start .pre .used .each _
+    (second-used (head .loop .inv) (turn .loop-test .taken) (middle .after .ensures) (eq-eqb _ 1 kept))
 
 array-read-after-2 : tie.Need-array-read-after-2 Inv-loop μ-loop
 array-read-after-2 c =
@@ -149,8 +170,8 @@ forward-spec =
     tie.close
     (tie.spec Inv-loop μ-loop
     sent-by-even-requires (search needs) (search needs) loop-holds
-    array-read-value-at (search needs) array-read-after after-requires
-    array-read-value-at-2 (search needs) array-read-after-2 after-requires-2
+    array-read-value-at value-at-requires array-read-after after-requires
+    array-read-value-at-2 value-at-requires-2 array-read-after-2 after-requires-2
     sub-step-of part-step-of-start (search needs) step-of-requires
     add-to next-column-requires add-t (search needs) loop-again
     (search needs) same-length returns)

@@ -1,68 +1,24 @@
--- `readings::viterbi_decode_soft_with`: the refusals in their order, then the decoding. Assumes nothing.
-use mathlib.Core.Path.{refl, ap}
-use native.Mathlib.Omega.{arith}
+-- `readings::viterbi_decode_soft_with`: the readings are all at hand as f32s. Assumes nothing.
+use mathlib.Core.List.{append-nil}
+use mathlib.Core.Path.{sym, ap}
 use borrow.Author.Needs.{needs}
-use lib.ListN.{length-take}
-use Rattle.correlation.proofs.Answers.{not-prepared, bad-reading, good-readings, finds-decodes}
-use Rattle.correlation.proofs.Checks.{call-decodable}
-use Rattle.correlation.proofs.Selected.{finds-selected}
-use Rattle.correlation.proofs.Used.{used-within}
-use Rattle.refusal.specs.Answer.{accepted}
-use Rattle.refusal.proofs.Over.{both-refused}
+use lib.ListN.{length}
+use Rattle.f32s.specs.Single.{allOfBytes}
 use Rattle.readings.proofs.viterbi_decode_soft_with.Statement.{statement}
 use Rattle.readings.proofs.viterbi_decode_soft_with.Tie as tie
 
+decode-readings-requires : tie.Need-decode-readings-requires
+unfolding allOfBytes
+decode-readings-requires c κs =
+    let start : tie.Start = search in
+    sym (ap length (append-nil (start .args .readings .now)))
+
 returns : tie.Need-returns
+unfolding allOfBytes
 returns c =
-    let stopped : tie.Then1 = search in
-    let prepared : tie.After-prepare = search in
-    both-refused (not-prepared _ _ _ _ _ _ _ _ _ (prepared .prepare .ensures) (stopped .if1 .taken)) (c .no-word .ensures) refl refl
-
-slice-aggregate-first-bad : tie.Need-slice-aggregate-first-bad
-slice-aggregate-first-bad c =
-    let passed : tie.Else1 = search in
-    let prepared : tie.After-prepare = search in
-    simp length-take (omega (arith, used-within (prepared .prepare .ensures .used (passed .if1 .left))))
-
-cast-no-word : tie.Need-cast-no-word
-cast-no-word c =
-    let passed : tie.Else1 = search in
-    let prepared : tie.After-prepare = search in
-    omega (arith, prepared .prepare .ensures .used (passed .if1 .left) .few)
-
-returns-2 : tie.Need-returns-2
-returns-2 c =
-    let examined : tie.After-first-bad = search in
-    let passed : tie.Else1 = search in
-    let prepared : tie.After-prepare = search in
-    both-refused
-    (bad-reading _ _ _ _ _ _ _ _ _ (prepared .prepare .ensures) (passed .if1 .left) (examined .first-bad .ensures)
-    (c .before .if2 .taken))
-    (c .no-word2 .ensures) (search) (search)
-
-decode-requires : tie.Need-decode-requires
-decode-requires c κs =
-    let passed : tie.Else1 = search in
-    let prepared : tie.After-prepare = search in
-    call-decodable (prepared .prepare .ensures) (passed .if1 .left) refl refl
-
-returns-3 : tie.Need-returns-3
-returns-3 c =
-    let ran : tie.After-decode = search in
-    let good : tie.Else2 = search in
-    let examined : tie.After-first-bad = search in
-    let passed : tie.Else1 = search in
-    let prepared : tie.After-prepare = search in
-    let ready = prepared .prepare .ensures in
-    let found = finds-selected (ready .chosen) (ready .halved) (ran .decode .ensures) in
-    finds-decodes _ _ _ _ _
-    (good-readings _ _ _ _ _ _ _ _ _ ready (passed .if1 .left) (examined .first-bad .ensures) (good .if2 .left))
-    (ap accepted (found .scored)) found
+    let decoded : tie.After-decode-readings = search in
+    let start : tie.Start = search in
+    rw (append-nil (start .args .readings .now)) at (decoded .decode-readings .ensures)
 
 pub viterbi-decode-soft-with-spec : {M : Type 1} → statement M
-viterbi-decode-soft-with-spec =
-    tie.close
-    (tie.spec
-    (search needs) (search needs) returns
-    slice-aggregate-first-bad (search needs) cast-no-word (search needs) returns-2
-    decode-requires (search needs) (search needs) returns-3)
+viterbi-decode-soft-with-spec = tie.close (tie.spec (search needs) decode-readings-requires (search needs) (search needs) returns)

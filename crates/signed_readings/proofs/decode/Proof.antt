@@ -1,7 +1,7 @@
 -- `signed_readings::decode`: all steps, then the way back over what they leave. Assumes nothing.
 use native.Mathlib.Omega.{arith}
 use borrow.Author.Needs.{needs}
-use Rattle.correlation.proofs.Rows.{some-states, way-walkable, way-finds}
+use Rattle.correlation.proofs.Rows.{decodable-runnable, some-states, way-walkable, way-finds}
 use Rattle.signed_readings.proofs.Score.{finds-score}
 use Rattle.signed_readings.proofs.decode.Statement.{statement}
 use Rattle.signed_readings.proofs.decode.Tie as tie
@@ -9,18 +9,7 @@ use Rattle.signed_readings.proofs.decode.Tie as tie
 forward-requires : tie.Need-forward-requires
 forward-requires c κs =
     let start : tie.Start = search in
-    let ready = start .pre .shaped in
-    record {
-      shaped =
-          record {
-            shape = ready .shape;
-            compiled = ready .compiled;
-            pattern = ready .pattern;
-            few = omega (arith, ready .few, ready .shape .held .narrow);
-            room = ready .rows;
-          };
-      bytes = start .pre .bytes;
-    }
+    record { shaped = decodable-runnable (start .pre .shaped); bytes = start .pre .bytes }
 
 trace-requires : tie.Need-trace-requires
 trace-requires c κs =

@@ -3,15 +3,17 @@ use Prim.Native.Nat.{_-_}
 use native.Mathlib.Omega.{arith}
 use borrow.Author.Needs.{needs}
 use lib.ListN.{length-take, length-drop}
+use Rattle.symbols.proofs.Components.{symbol-there}
 use Rattle.symbols.proofs.Steps.{Forwarded, forwarded-starts, forwarded-goes-on, forwarded-ends, rows-sized, row-within}
 use Rattle.symbols.proofs.forward_pass.forward.Statement.{statement}
 use Rattle.symbols.proofs.forward_pass.forward.Tie as tie
 
 abbrev Inv-loop : tie.InvT-loop
-Inv-loop code soft count rows₀ c0 c1 pm₀ next₀ to₀ t₀ rows pm next to t = Forwarded code soft count rows₀ c0 c1 rows pm to t
+Inv-loop code soft bits count rows₀ c0 c1 pm₀ next₀ to₀ t₀ rows pm next to t =
+    Forwarded code soft bits count rows₀ c0 c1 rows pm to t
 
 abbrev μ-loop : tie.MeasureT-loop
-μ-loop code soft count rows₀ c0 c1 pm₀ next₀ to₀ t₀ rows pm next to t = count - t
+μ-loop code soft bits count rows₀ c0 c1 pm₀ next₀ to₀ t₀ rows pm next to t = count - t
 
 -- the places of a turn
 abbrev Head : Type 0
@@ -31,17 +33,11 @@ loop-holds c =
     let start : tie.Start Inv-loop μ-loop = search in
     forwarded-starts (start .pre) (coded .sent-by-even .ensures .crossed)
 
-shared-slice-read-step : tie.Need-shared-slice-read-step Inv-loop μ-loop
-shared-slice-read-step c =
+symbol-at-requires : tie.Need-symbol-at-requires Inv-loop μ-loop
+symbol-at-requires c κs =
     let turn : Turn = search in
     let head : Head = search in
-    omega (arith, turn .loop-test .taken, head .loop .inv .ready .symbols)
-
-shared-slice-read-step-2 : tie.Need-shared-slice-read-step-2 Inv-loop μ-loop
-shared-slice-read-step-2 c =
-    let turn : Turn = search in
-    let head : Head = search in
-    omega (arith, turn .loop-test .taken, head .loop .inv .ready .symbols)
+    symbol-there (head .loop .inv .ready .symbols) (turn .loop-test .taken)
 
 sub-step : tie.Need-sub-step Inv-loop μ-loop
 sub-step c =
@@ -71,9 +67,10 @@ add-to c =
 loop-again : tie.Need-loop-again Inv-loop μ-loop
 loop-again c =
     let selected : tie.After-step Inv-loop μ-loop = search in
+    let read : tie.After-symbol-at Inv-loop μ-loop = search in
     let turn : Turn = search in
     let head : Head = search in
-    forwarded-goes-on (head .loop .inv) (turn .loop-test .taken) (selected .step .ensures) (omega arith)
+    forwarded-goes-on (head .loop .inv) (turn .loop-test .taken) (read .symbol-at .ensures) (selected .step .ensures) (omega arith)
 
 same-length : tie.Need-same-length Inv-loop μ-loop
 same-length c =
@@ -91,8 +88,7 @@ forward-spec =
     tie.close
     (tie.spec Inv-loop μ-loop
     sent-by-even-requires (search needs) loop-holds
-    (search needs) (search needs) shared-slice-read-step
-    (search needs) (search needs) shared-slice-read-step-2
+    symbol-at-requires
     sub-step part-step-start (search needs) step-requires
     add-to (search needs) (search needs) loop-again
     (search needs) same-length returns)
