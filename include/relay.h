@@ -23,7 +23,7 @@
  *
  *   1   the code is above 2
  *   2   the rate is above 4
- *   3   there are more than 4096 info bits
+ *   3   there are more than 16384 info bits
  *   4   out is shorter than needed
  *   5   scratch is shorter than needed
  *   6   a used reading is NaN or infinite; the place is the index of the first one, counted in readings

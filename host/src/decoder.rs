@@ -4,7 +4,7 @@
 //! of the coded bits. Those that are missing at the end count as 0.0; those beyond the coded length are not looked
 //! at.
 
-use crate::encoder::{Code, INFO_LIMIT, Rate};
+use crate::encoder::{Code, Rate, room_for};
 use crate::refusal::{Refusal, score};
 use crate::{doors, slices};
 
@@ -82,8 +82,7 @@ pub(crate) fn with_buffers<S>(
     info: usize,
     decoding: impl FnOnce(&mut [u8], &mut [u8]) -> Result<S, Refusal>,
 ) -> Result<(Vec<u8>, S), Refusal> {
-    // Beyond the limit the door refuses whatever the room; so none is taken for it.
-    let room = info.min(INFO_LIMIT);
+    let room = room_for(info);
     let mut bits = vec![0; room];
     let score = decoding(&mut bits, &mut vec![0; scratch_len(code, room)])?;
     Ok((bits, score))

@@ -6,7 +6,7 @@ use crate::doors;
 use crate::refusal::{Refusal, count};
 
 /// The most info bits that one call may bring; more give refusal 3.
-pub const INFO_LIMIT: usize = 4096;
+pub const INFO_LIMIT: usize = 16_384;
 
 /// The convolutional codes, each with its keep patterns, by 01's numbers.
 #[derive(Debug, Clone, Copy, PartialEq, Eq)]
@@ -38,7 +38,8 @@ pub enum Rate {
 /// use relay_coder::{Code, Rate, coded_len};
 ///
 /// assert_eq!(coded_len(Code::DvbK7, Rate::R7_8, 10), Ok(19));
-/// assert_eq!(coded_len(Code::K5, Rate::R1_2, 4097).unwrap_err().number, 3);
+/// assert_eq!(coded_len(Code::K5, Rate::R1_2, 16_384), Ok(32_776));
+/// assert_eq!(coded_len(Code::K5, Rate::R1_2, 16_385).unwrap_err().number, 3);
 /// ```
 pub fn coded_len(code: Code, rate: Rate, info: usize) -> Result<usize, Refusal> {
     count(doors::coded_len(code as u8, rate as u8, info))
@@ -81,8 +82,7 @@ pub fn encode_into(code: Code, rate: Rate, info: &[u8], out: &mut [u8]) -> Resul
 /// assert_eq!(relay_coder::conv_encode(&[1, 0]).unwrap(), [1, 1, 0, 0]);
 /// ```
 pub fn conv_encode(bits: &[u8]) -> Result<Vec<u8>, Refusal> {
-    // Beyond the limit the door refuses whatever the room; so none is taken for it.
-    let mut out = vec![0; 2 * bits.len().min(INFO_LIMIT)];
+    let mut out = vec![0; 2 * room_for(bits.len())];
     conv_encode_into(bits, &mut out)?;
     Ok(out)
 }
@@ -96,4 +96,9 @@ pub fn conv_encode(bits: &[u8]) -> Result<Vec<u8>, Refusal> {
 /// ```
 pub fn conv_encode_into(bits: &[u8], out: &mut [u8]) -> Result<usize, Refusal> {
     count(doors::conv_encode(bits, out))
+}
+
+/// So many info bits to take room for: none beyond the limit, where a door refuses whatever the room.
+pub(crate) fn room_for(info: usize) -> usize {
+    if info > INFO_LIMIT { 0 } else { info }
 }

@@ -45,16 +45,34 @@ fn k5_info_0_lengths() {
     );
 }
 
-#[test]
-fn info_4096_is_accepted() {
-    let info = [1; INFO_LIMIT];
-    assert_eq!(coded_len(Code::K5, Rate::R1_2, INFO_LIMIT), Ok(8200));
-    assert_eq!(encode(Code::DvbK7, Rate::R1_2, &info).unwrap().len(), 8204);
-    assert_eq!(conv_encode(&info).unwrap().len(), 8192);
+/// So many ones are accepted, and give so many coded bits at each rate, by K5 and by either K7.
+fn accepted(info: usize, k5: [usize; 5], k7: [usize; 5]) {
+    let ones = vec![1; info];
+    for (code, lens) in [(Code::K5, k5), (Code::DvbK7, k7), (Code::En300744, k7)] {
+        assert_eq!(RATES.map(|rate| coded_len(code, rate, info)), lens.map(Ok));
+        assert_eq!(RATES.map(|rate| encode(code, rate, &ones).unwrap().len()), lens);
+    }
+    assert_eq!(conv_encode(&ones).unwrap().len(), 2 * info);
 }
 
 #[test]
-fn info_4097_gives_3() {
+fn info_16384_is_accepted() {
+    assert_eq!(INFO_LIMIT, 16_384);
+    accepted(
+        16_384,
+        [32_776, 24_582, 21_851, 19_666, 18_730],
+        [32_780, 24_585, 21_854, 19_668, 18_732],
+    );
+}
+
+#[test]
+fn info_4096_and_4097_are_accepted() {
+    accepted(4096, [8200, 6150, 5467, 4920, 4686], [8204, 6153, 5470, 4923, 4688]);
+    accepted(4097, [8202, 6152, 5468, 4922, 4687], [8206, 6155, 5471, 4924, 4690]);
+}
+
+#[test]
+fn info_16385_gives_3() {
     let refused = Refusal { number: 3, place: 0 };
     let info = [1; INFO_LIMIT + 1];
     for code in [Code::K5, Code::DvbK7, Code::En300744] {

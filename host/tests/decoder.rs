@@ -46,10 +46,10 @@ fn a_nan_is_refused_where_it_is_used() {
 }
 
 #[test]
-fn info_4096_is_accepted_and_4097_gives_3() {
+fn info_16384_is_accepted_and_16385_gives_3() {
     for code in CODES {
         for rate in RATES {
-            assert_eq!(decode(code, rate, INFO_LIMIT, &[]).unwrap().bits, [0; INFO_LIMIT]);
+            assert_eq!(decode(code, rate, INFO_LIMIT, &[]), word(&[0; 16_384], 0.0));
             assert_eq!(decode(code, rate, INFO_LIMIT + 1, &[]), Err(refusal(3, 0)));
             assert_eq!(decode(code, rate, usize::MAX, &[]), Err(refusal(3, 0)));
         }
@@ -57,13 +57,26 @@ fn info_4096_is_accepted_and_4097_gives_3() {
 }
 
 #[test]
-fn a_clean_codeword_comes_back_with_its_length_as_score() {
-    let info: Vec<u8> = (0..200u32).map(|at| (at * at / 7 % 2) as u8).collect();
+fn info_4096_and_4097_are_accepted() {
     for code in CODES {
         for rate in RATES {
-            let readings: Vec<f32> = encode(code, rate, &info).unwrap().iter().map(clean).collect();
-            let length = coded_len(code, rate, info.len()).unwrap();
-            assert_eq!(decode(code, rate, info.len(), &readings), word(&info, length as f32));
+            for info in [4096, 4097] {
+                assert_eq!(decode(code, rate, info, &[]), word(&vec![0; info], 0.0));
+            }
+        }
+    }
+}
+
+#[test]
+fn a_clean_codeword_comes_back_with_its_length_as_score() {
+    for len in [200, 4096, 4097, INFO_LIMIT as u32] {
+        let info: Vec<u8> = (0..len).map(|at| (at * at / 7 % 2) as u8).collect();
+        for code in CODES {
+            for rate in RATES {
+                let readings: Vec<f32> = encode(code, rate, &info).unwrap().iter().map(clean).collect();
+                let length = coded_len(code, rate, info.len()).unwrap();
+                assert_eq!(decode(code, rate, info.len(), &readings), word(&info, length as f32));
+            }
         }
     }
 }

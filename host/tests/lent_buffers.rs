@@ -52,12 +52,13 @@ fn unknown_codes_and_rates_give_1_and_2() {
 
 #[test]
 fn the_lowest_number_comes_first() {
-    let long = [0; 4097];
+    let long = [0; 16_385];
     assert_eq!(doors::encode(3, 5, &long, &mut []), REFUSED);
     assert_eq!(doors::encode(1, 5, &long, &mut []), 2 * REFUSED);
     assert_eq!(doors::encode(1, 4, &long, &mut []), 3 * REFUSED);
-    assert_eq!(doors::encode(1, 4, &long[..4096], &mut []), 4 * REFUSED);
+    assert_eq!(doors::encode(1, 4, &long[..16_384], &mut []), 4 * REFUSED);
     assert_eq!(doors::conv_encode(&long, &mut []), 3 * REFUSED);
+    assert_eq!(doors::conv_encode(&long[..16_384], &mut []), 4 * REFUSED);
     assert_eq!(doors::coded_len(3, 5, usize::MAX), REFUSED);
     assert_eq!(doors::coded_len(0, 5, usize::MAX), 2 * REFUSED);
     assert_eq!(doors::coded_len(0, 0, usize::MAX), 3 * REFUSED);
@@ -75,6 +76,8 @@ fn the_lowest_number_comes_first() {
     assert_eq!(signed(3, 5, usize::MAX, 0, 0), REFUSED);
     assert_eq!(signed(0, 5, usize::MAX, 0, 0), 2 * REFUSED);
     assert_eq!(signed(0, 0, usize::MAX, 0, 0), 3 * REFUSED);
+    assert_eq!(signed(0, 0, 16_385, 0, 0), 3 * REFUSED);
+    assert_eq!(signed(0, 0, 16_384, 0, 0), 4 * REFUSED);
     assert_eq!(signed(0, 0, 1, 0, 0), 4 * REFUSED);
     assert_eq!(signed(0, 0, 1, 1, 79), 5 * REFUSED);
     assert_eq!(signed(0, 0, 1, 1, 80), 12 * REFUSED + 1);

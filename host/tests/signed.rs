@@ -62,20 +62,20 @@ fn the_largest_sums_are_whole() {
     let coded = coded_len(Code::DvbK7, Rate::R1_2, INFO_LIMIT).unwrap();
     let zeros = decode_signed(Code::DvbK7, Rate::R1_2, INFO_LIMIT, &vec![127; coded]).unwrap();
     assert!(zeros.bits.iter().all(|bit| *bit == 0));
-    assert_eq!(zeros.score, 127 * 8204);
+    assert_eq!(zeros.score, 127 * 32_780);
     // Seven ones in a row code to ones, so that the word is ones but about its ends.
     let ones = decode_signed(Code::DvbK7, Rate::R1_2, INFO_LIMIT, &vec![-127; coded]).unwrap();
     assert!(ones.bits[6..INFO_LIMIT - 6].iter().all(|bit| *bit == 1));
     let sent = encode(Code::DvbK7, Rate::R1_2, &ones.bits).unwrap();
     let agreeing = sent.iter().filter(|bit| **bit == 1).count() as i32;
-    assert_eq!(ones.score, 127 * (2 * agreeing - 8204));
+    assert_eq!(ones.score, 127 * (2 * agreeing - 32_780));
 }
 
 #[test]
-fn info_4096_is_accepted_and_4097_gives_3() {
+fn info_16384_is_accepted_and_16385_gives_3() {
     for code in CODES {
         for rate in RATES {
-            assert_eq!(decode_signed(code, rate, INFO_LIMIT, &[]), word(&[0; INFO_LIMIT], 0));
+            assert_eq!(decode_signed(code, rate, INFO_LIMIT, &[]), word(&[0; 16_384], 0));
             assert_eq!(decode_signed(code, rate, INFO_LIMIT + 1, &[]), Err(refusal(3, 0)));
             assert_eq!(decode_signed(code, rate, usize::MAX, &[]), Err(refusal(3, 0)));
         }
@@ -83,21 +83,34 @@ fn info_4096_is_accepted_and_4097_gives_3() {
 }
 
 #[test]
-fn a_damaged_codeword_comes_back() {
-    let info: Vec<u8> = (0..200u32).map(|at| (at * at / 7 % 2) as u8).collect();
+fn info_4096_and_4097_are_accepted() {
     for code in CODES {
         for rate in RATES {
-            let mut readings: Vec<i8> = encode(code, rate, &info).unwrap().iter().map(clean).collect();
-            let length = readings.len() as i32;
-            assert_eq!(
-                decode_signed(code, rate, info.len(), &readings),
-                word(&info, 100 * length)
-            );
-            readings[50] = -readings[50] / 2;
-            assert_eq!(
-                decode_signed(code, rate, info.len(), &readings),
-                word(&info, 100 * length - 150)
-            );
+            for info in [4096, 4097] {
+                assert_eq!(decode_signed(code, rate, info, &[]), word(&vec![0; info], 0));
+            }
+        }
+    }
+}
+
+#[test]
+fn a_damaged_codeword_comes_back() {
+    for len in [200, 4096, 4097, INFO_LIMIT as u32] {
+        let info: Vec<u8> = (0..len).map(|at| (at * at / 7 % 2) as u8).collect();
+        for code in CODES {
+            for rate in RATES {
+                let mut readings: Vec<i8> = encode(code, rate, &info).unwrap().iter().map(clean).collect();
+                let length = readings.len() as i32;
+                assert_eq!(
+                    decode_signed(code, rate, info.len(), &readings),
+                    word(&info, 100 * length)
+                );
+                readings[50] = -readings[50] / 2;
+                assert_eq!(
+                    decode_signed(code, rate, info.len(), &readings),
+                    word(&info, 100 * length - 150)
+                );
+            }
         }
     }
 }

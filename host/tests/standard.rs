@@ -66,10 +66,10 @@ fn at_1_2_they_are_the_same() {
 #[test]
 fn both_send_as_many_bits() {
     for rate in RATES {
-        for info in [0, 1, 2, 3, 10, 1000, 4096] {
+        for info in [0, 1, 2, 3, 10, 1000, 4096, 4097, 16_384] {
             assert_eq!(
-                coded_len(Code::En300744, rate, info),
-                coded_len(Code::DvbK7, rate, info)
+                coded_len(Code::En300744, rate, info).unwrap(),
+                coded_len(Code::DvbK7, rate, info).unwrap()
             );
         }
     }

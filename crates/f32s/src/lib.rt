@@ -1,4 +1,4 @@
-// Tests on one f32, an f32 from its four bytes, and its bits.
+// Tests on one f32, an f32 from its four bytes, and its bits; and the same of many, where they lie.
 ghost use mathlib.Core.Bool.{true};
 ghost use mathlib.Core.Path.{_≡_};
 ghost use Prim.Native.Nat.{_+_, _/_, _<_, min};

@@ -3,4 +3,4 @@ use Prim.Native.Nat.{ℕ}
 
 -- the most info bits or symbols: one more is refusal 3
 abbrev pub most : ℕ
-most = 4096
+most = 16384

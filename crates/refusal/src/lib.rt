@@ -4,7 +4,7 @@ ghost use mathlib.Core.Path.{_≡_};
 ghost use Rattle.refusal.specs.Answer.{countSaid, doneSaid, refused, Counts, Numbers};
 
 // The most info bits or symbols that one call may bring.
-pub const MOST: usize = 4096;
+pub const MOST: usize = 16384;
 
 // ---- the refusals' numbers, one row each of document 01's table
 

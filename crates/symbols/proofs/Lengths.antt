@@ -31,7 +31,7 @@ pub length-survivors :
 length-survivors code some soft = length-rows (rows-filled code some soft)
 
 -- what was accepted had room
-room-past :
+pub room-past :
     {A : Type 0} (count room scratch : ℕ) (rest : Said A) (a : A) → roomFor count room scratch rest ≡ accepted a →
     rest ≡ accepted a
 room-past count room scratch rest a e =

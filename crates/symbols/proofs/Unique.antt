@@ -1,11 +1,8 @@
 -- Of each entry, and of each part that other crates may call, any two outcomes that its contract allows are equal. `Post` is the
 -- contract as the prover reads it: of what the call is given, what it returns, and what it leaves in each argument. Assumes
 -- nothing.
-use mathlib.Core.List.{List}
-use mathlib.Core.Path.{_≡_, refl, sym, _∙_}
+use mathlib.Core.Path.{refl, sym, _∙_}
 use Prim.Native.Nat.{ℕ}
-use denote.Ref.{RefT}
-use lib.Ieee.{Float}
 use Rattle.refusal.specs.Answer.{Counts}
 use Rattle.refusal.proofs.Determined.{Once, OnceLeft, OnceBoth, both-once}
 use Rattle.refusal.proofs.Told.{counts-tell}

@@ -1,4 +1,4 @@
-//! Times two ways to do one thing, turn by turn, so that what else the machine does falls on both.
+//! Times two ways to do one thing, turn by turn, so that what else the machine does falls on both; or one way by itself.
 
 use std::time::Instant;
 
@@ -28,6 +28,12 @@ pub fn times(rounds: usize, mut first: impl FnMut(), mut second: impl FnMut()) -
         second_times.push(time(&mut second, second_calls));
     }
     [first_times, second_times].map(Times::of)
+}
+
+/// The times of one call of a thing by itself, over so many turns.
+pub fn times_alone(rounds: usize, mut work: impl FnMut()) -> Times {
+    let calls = calls_per_turn(&mut work);
+    Times::of((0..rounds).map(|_| time(&mut work, calls)).collect())
 }
 
 impl Times {

@@ -7,7 +7,7 @@ use relay_coder::{Code, INFO_LIMIT, Rate, conv_encode_into, encode_into};
 use std::hint::black_box;
 
 const SEED: u64 = 1998;
-const SIZES: [usize; 2] = [1000, INFO_LIMIT];
+const SIZES: [usize; 3] = [1000, 4096, INFO_LIMIT];
 const CODES: [(&str, Code, ConvCode); 2] = [("K5", Code::K5, ConvCode::K5), ("K7", Code::DvbK7, ConvCode::DvbK7)];
 const RATES: [(&str, Rate, PunctureRate); 2] = [
     ("1/2", Rate::R1_2, PunctureRate::R1_2),

@@ -1,10 +1,12 @@
 //! Times the proved doors, and the proved code that has no door, against the oracle, or against each other where the
-//! oracle has no such entry: one run, equal input, both optimised, one module for each area.
+//! oracle has no such entry: one run, equal input, both optimised, one module for each area. What a call costs from the
+//! shortest to the longest is timed by itself.
 
 mod clock;
 mod decoder;
 mod encoder;
 mod lookup;
+mod short;
 mod signed;
 mod standard;
 mod streaming;
@@ -22,4 +24,5 @@ fn main() {
     symbols::run();
     streaming::run();
     lookup::run();
+    short::run();
 }

@@ -7,7 +7,7 @@ use relay_coder::{Code, INFO_LIMIT, Rate, decode_into, decode_signed_into, encod
 use std::hint::black_box;
 
 const SEED: u64 = 1998;
-const SIZES: [usize; 2] = [1000, INFO_LIMIT];
+const SIZES: [usize; 3] = [1000, 4096, INFO_LIMIT];
 const CODES: [(&str, Code); 2] = [("K7 1/2", Code::DvbK7), ("K5 1/2", Code::K5)];
 
 /// More than elsewhere, since the least of them is shown too.
@@ -18,7 +18,6 @@ pub fn run() {
         "signed bytes beside f32, both proved, {ROUNDS} rounds: least, then median; the ratios are of the doors as a host \
          calls them"
     );
-    println!("the time of f32 has the making of an f32 from each four bytes in it: there is no door without that");
     println!(
         "{:<12} {:>6} {:>8} {:>8} {:>7} {:>8} {:>8} {:>7}",
         "entry", "info", "signed", "f32", "ratio", "signed", "f32", "ratio"
@@ -70,6 +69,6 @@ fn row(name: &str, code: Code, size: usize) {
 }
 
 /// A reading about 1 or -1 as a receiver rounds it to a byte.
-fn byte(reading: f32) -> i8 {
+pub fn byte(reading: f32) -> i8 {
     (reading * 50.0).round().clamp(-127.0, 127.0) as i8
 }

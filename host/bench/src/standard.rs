@@ -8,7 +8,7 @@ use relay_coder::{Code, INFO_LIMIT, Rate, Refusal, decode_into, encode, encode_i
 use std::hint::black_box;
 
 const SEED: u64 = 1998;
-const SIZES: [usize; 2] = [1000, INFO_LIMIT];
+const SIZES: [usize; 3] = [1000, 4096, INFO_LIMIT];
 const RATES: [(&str, Rate); 2] = [("1/2", Rate::R1_2), ("7/8", Rate::R7_8)];
 
 pub fn run() {

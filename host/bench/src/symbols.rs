@@ -8,7 +8,7 @@ use relay_coder::INFO_LIMIT;
 use std::hint::black_box;
 
 const SEED: u64 = 1998;
-const SIZES: [usize; 2] = [1000, INFO_LIMIT];
+const SIZES: [usize; 3] = [1000, 4096, INFO_LIMIT];
 
 pub fn run() {
     println!(

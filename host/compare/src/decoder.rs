@@ -7,10 +7,15 @@ pub mod refused;
 
 use crate::groups::Groups;
 use call::bytes;
-use expected::{CODES, RATES, Random};
+use expected::{CODES, INFO_LIMIT, RATES, Random};
 use refused::Fault;
 
 pub fn run(groups: &mut Groups, random: &mut Random) {
+    let nan = Fault {
+        good: bytes(&[1.0]),
+        bad: bytes(&[f32::NAN]),
+        number: 6,
+    };
     for (code, code_name) in CODES {
         for (rate, rate_name) in RATES {
             let name = format!("decode {code_name} {rate_name}");
@@ -35,12 +40,20 @@ pub fn run(groups: &mut Groups, random: &mut Random) {
                 );
             }
             groups.report(
-                &format!("{name}, noisy codewords"),
+                &format!(
+                    "{name}, codewords unharmed and in noise, info random up to {} and {:?}",
+                    accepted::NOISY_LENGTHS,
+                    accepted::LONG
+                ),
                 accepted::noisy(code, rate, bytes, random),
             );
             groups.report(
                 &format!("{name}, a NaN or an infinity at each place, used and surplus"),
                 refused::bad_readings(code, rate, random),
+            );
+            groups.report(
+                &format!("{name}, a NaN at the last used and the first surplus place, info {INFO_LIMIT}"),
+                refused::last_of_longest(code, rate, &nan, random),
             );
         }
     }
@@ -55,10 +68,5 @@ pub fn run(groups: &mut Groups, random: &mut Random) {
         "decode, every code and rate number",
         refused::every_number(&bytes(&[-1.0, 0.5, 2.0]), random),
     );
-    let nan = Fault {
-        good: bytes(&[1.0]),
-        bad: bytes(&[f32::NAN]),
-        number: 6,
-    };
     groups.report("decode, every set of the faults 1 to 6", refused::faults(&nan, random));
 }

@@ -23,6 +23,9 @@ use std::thread;
 /// Repeats the random inputs; any other number serves as well.
 const SEED: u64 = 0x4879_6F6C_6D75_7265;
 
+/// The limit before request 2026-06. The counts about it were the last that were accepted and the first that was not.
+const FORMER_LIMIT: usize = 4096;
+
 /// What compares an area: it reports its groups, with random inputs of its own.
 type Area = fn(&mut Groups, &mut Random);
 

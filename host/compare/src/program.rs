@@ -13,8 +13,10 @@ const LENGTHS: [usize; 22] = [
     0, 1, 2, 3, 4, 5, 6, 7, 8, 9, 11, 12, 13, 8187, 8188, 8189, 8191, 8192, 8193, 8196, 10_000, 100_000,
 ];
 
-/// Info counts about the program's limit, the decoder's, and the largest.
-const INFO: [u16; 12] = [0, 1, 2, 9, 10, 255, 256, 999, 1000, 1001, 4097, 65535];
+/// Info counts about the program's limit, the decoder's former one and its own, and the largest.
+const INFO: [u16; 15] = [
+    0, 1, 2, 9, 10, 255, 256, 999, 1000, 1001, 4096, 4097, 16_384, 16_385, 65535,
+];
 
 const RANDOM: usize = 400;
 

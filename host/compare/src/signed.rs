@@ -6,13 +6,18 @@ mod best;
 mod call;
 mod refused;
 
-use crate::decoder::accepted::{ALL_INFO, ALL_LISTS, every_list, noisy};
+use crate::decoder::accepted::{ALL_INFO, ALL_LISTS, LONG, NOISY_LENGTHS, every_list, noisy};
 use crate::decoder::best::{ALL_BITS, every_word};
-use crate::decoder::refused::{Fault, every_number, faults};
+use crate::decoder::refused::{Fault, every_number, faults, last_of_longest};
 use crate::groups::Groups;
 use expected::{CODES, INFO_LIMIT, RATES, Random};
 
 pub fn run(groups: &mut Groups, random: &mut Random) {
+    let minus_128 = Fault {
+        good: vec![1i8],
+        bad: vec![-128],
+        number: 12,
+    };
     for (code, code_name) in CODES {
         for (rate, rate_name) in RATES {
             let name = format!("decode_signed {code_name} {rate_name}");
@@ -35,7 +40,7 @@ pub fn run(groups: &mut Groups, random: &mut Random) {
                 );
             }
             groups.report(
-                &format!("{name}, noisy codewords"),
+                &format!("{name}, codewords unharmed and in noise, info random up to {NOISY_LENGTHS} and {LONG:?}"),
                 noisy(code, rate, accepted::quantised, random),
             );
             groups.report(
@@ -47,6 +52,10 @@ pub fn run(groups: &mut Groups, random: &mut Random) {
             groups.report(
                 &format!("{name}, -128 at each place, used and surplus, of lists short and long, alone and with more"),
                 refused::minus_128(code, rate, random),
+            );
+            groups.report(
+                &format!("{name}, -128 at the last used and the first surplus place, info {INFO_LIMIT}"),
+                last_of_longest(code, rate, &minus_128, random),
             );
         }
     }
@@ -60,11 +69,6 @@ pub fn run(groups: &mut Groups, random: &mut Random) {
         "decode_signed, every code and rate number",
         every_number(&[-1i8, 5, 127], random),
     );
-    let minus_128 = Fault {
-        good: vec![1i8],
-        bad: vec![-128],
-        number: 12,
-    };
     groups.report(
         "decode_signed, every set of the faults 1 to 5 and 12",
         faults(&minus_128, random),

@@ -1,7 +1,7 @@
 //! What each door must answer and leave in its buffers. An accepted input's output is the oracle's; whether an
-//! input is accepted is decided here, from 01's table of refusal numbers, and from nothing of the proved code. The
-//! reader for pauses, code number 2 and the decoder of signed bytes, which the oracle does not have, are by the words of
-//! the requests 2026-01, 2026-04 and 2026-05.
+//! input is accepted is decided here, from 01's table of refusal numbers with the limit of request 2026-06, and from
+//! nothing of the proved code. The reader for pauses, code number 2 and the decoder of signed bytes, which the oracle does
+//! not have, are by the words of the requests 2026-01, 2026-04 and 2026-05.
 
 pub mod decoder;
 pub mod encoder;
@@ -19,8 +19,8 @@ pub use random::Random;
 pub const CODES: [(u8, &str); 3] = [(0, "K5"), (1, "K7"), (2, "DVB")];
 pub const RATES: [(u8, &str); 5] = [(0, "1/2"), (1, "2/3"), (2, "3/4"), (3, "5/6"), (4, "7/8")];
 
-/// The most info bits that one call may bring.
-pub const INFO_LIMIT: usize = 4096;
+/// The most info bits or symbols that one call may bring.
+pub const INFO_LIMIT: usize = 16_384;
 
 /// The answer that carries a refusal number with place 0.
 pub fn refused(number: u64) -> u64 {

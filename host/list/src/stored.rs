@@ -2,6 +2,7 @@
 
 pub mod decoder;
 pub mod encoder;
+pub mod limit;
 pub mod signed;
 pub mod streaming;
 pub mod symbols;
@@ -9,6 +10,9 @@ pub mod varicode;
 
 use list::line::Line;
 use std::{fs, io, path::Path};
+
+/// The limit before request 2026-06. The calls that were stored by then were written about it, and stay as they are.
+const FORMER_LIMIT: usize = 4096;
 
 /// The calls and the answers, as many lines of each.
 #[derive(Default)]

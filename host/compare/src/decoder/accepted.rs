@@ -1,6 +1,7 @@
 //! Readings that the decoder accepts.
 
 use super::call::{Call, Reading, bytes};
+use crate::FORMER_LIMIT;
 use crate::groups::Outcome;
 use crate::lent::{Fill, filled};
 use expected::decoder::survivors;
@@ -15,8 +16,19 @@ pub const ALL_INFO: usize = 2;
 /// Every info count up to this is tried: past each pattern's period and each register's width several times.
 pub const LENGTHS: usize = 40;
 
-/// Longer ones, the last two that are accepted among them.
-pub const LONG: [usize; 3] = [500, INFO_LIMIT - 1, INFO_LIMIT];
+/// Longer ones, those about the former limit and the last two that are accepted among them.
+pub const LONG: [usize; 6] = [
+    500,
+    FORMER_LIMIT - 1,
+    FORMER_LIMIT,
+    FORMER_LIMIT + 1,
+    INFO_LIMIT - 1,
+    INFO_LIMIT,
+];
+
+/// How long codewords in noise are: so many random lengths up to this, and each of the long ones.
+pub const NOISY_LENGTHS: usize = 300;
+const NOISY: usize = 20;
 
 /// How readings are chosen.
 #[derive(Clone, Copy)]
@@ -112,8 +124,8 @@ pub fn list_lens(coded: usize) -> [usize; 7] {
 pub fn noisy<R: Reading>(code: u8, rate: u8, crossing: fn(&[f32]) -> Vec<R>, random: &mut Random) -> Outcome {
     let mut cases = 0;
     for spread in [0.0, 0.5, 1.0, 2.0, 4.0] {
-        for _ in 0..20 {
-            let info = 1 + random.below(300);
+        let random_lengths: Vec<usize> = (0..NOISY).map(|_| 1 + random.below(NOISY_LENGTHS)).collect();
+        for info in random_lengths.into_iter().chain(LONG) {
             let word = random.bits(info);
             let coded = coded_len(code, rate, info) as usize;
             let sent = encode(code, rate, &word, &vec![0; coded]).out;
@@ -127,18 +139,22 @@ pub fn noisy<R: Reading>(code: u8, rate: u8, crossing: fn(&[f32]) -> Vec<R>, ran
     Ok(cases)
 }
 
-/// Both buffers exact, and both long, filled with random bytes.
+/// Both buffers long, and both exact, filled with random bytes. The exact ones are the fronts of the long ones, and what
+/// must come of them is the front of what must come of those: so the model, which takes longest, runs once for both.
 pub fn every_buffer<R: Reading>(code: u8, rate: u8, info: usize, readings: &[R], random: &mut Random) -> Outcome {
-    for more in [0, 30] {
-        let out = filled(Fill::Varying, info + more, random);
-        let scratch = filled(Fill::Varying, survivors(code, info) + more, random);
-        Call {
-            code,
-            rate,
-            info,
-            readings,
-        }
-        .compare(&out, &scratch)?;
-    }
+    let call = Call {
+        code,
+        rate,
+        info,
+        readings,
+    };
+    let (room, rows) = (info, survivors(code, info));
+    let out = filled(Fill::Varying, room + 30, random);
+    let scratch = filled(Fill::Varying, rows + 30, random);
+    let mut must = R::expected(&call, &out, &scratch);
+    call.hold(&out, &scratch, &must)?;
+    must.out.truncate(room);
+    must.scratch.truncate(rows);
+    call.hold(&out[..room], &scratch[..rows], &must)?;
     Ok(2)
 }

@@ -48,9 +48,13 @@ pub fn bytes(readings: &[f32]) -> Vec<u8> {
 impl<R: Reading> Call<'_, R> {
     /// Compares the door with what it must give, and that with what stands beside it.
     pub fn compare(&self, out: &[u8], scratch: &[u8]) -> Result<(), String> {
-        let must = R::expected(self, out, scratch);
-        self.expect(out, scratch, &must)?;
-        R::beside(self, out, scratch, &must).map_err(|why| self.told(out, scratch, &why))
+        self.hold(out, scratch, &R::expected(self, out, scratch))
+    }
+
+    /// The same where what it must give is known.
+    pub fn hold(&self, out: &[u8], scratch: &[u8], must: &AfterBlock) -> Result<(), String> {
+        self.expect(out, scratch, must)?;
+        R::beside(self, out, scratch, must).map_err(|why| self.told(out, scratch, &why))
     }
 
     /// Compares the answer, every byte of both buffers, the bytes about them and the input.

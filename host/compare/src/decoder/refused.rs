@@ -66,6 +66,32 @@ pub struct Fault<R> {
     pub number: u64,
 }
 
+/// One bad reading in the longest block: at the last place that is used, and at the first that is not.
+pub fn last_of_longest<R: Reading>(code: u8, rate: u8, of_readings: &Fault<R>, random: &mut Random) -> Outcome {
+    let coded = coded_len(code, rate, INFO_LIMIT) as usize;
+    let out = filled(Fill::Varying, INFO_LIMIT, random);
+    let scratch = filled(Fill::Varying, survivors(code, INFO_LIMIT), random);
+    for place in [coded - 1, coded] {
+        let readings = &[of_readings.good.repeat(place), of_readings.bad.clone()].concat();
+        let call = Call {
+            code,
+            rate,
+            info: INFO_LIMIT,
+            readings,
+        };
+        call.compare(&out, &scratch)?;
+        if place < coded {
+            let unchanged = AfterBlock {
+                answer: refused(of_readings.number) + place as u64,
+                out: out.clone(),
+                scratch: scratch.clone(),
+            };
+            call.expect(&out, &scratch, &unchanged)?;
+        }
+    }
+    Ok(2)
+}
+
 /// Every set of the faults 1 to 5 and one of the readings, which has the place of 6 in a set; the lowest number of the
 /// set must come, and no byte may change.
 pub fn faults<R: Reading>(of_readings: &Fault<R>, random: &mut Random) -> Outcome {

@@ -1,6 +1,7 @@
 //! Inputs that the encoders accept when there is room.
 
 use super::entry::Entry;
+use crate::FORMER_LIMIT;
 use crate::groups::Outcome;
 use crate::lent::{FILLS, filled};
 use expected::{INFO_LIMIT, Random};
@@ -12,8 +13,15 @@ pub const ALL_WORDS: usize = 12;
 /// times, and past 64.
 pub const ALL_LENGTHS: usize = 72;
 
-/// Longer ones: a round number, and the last two that are accepted.
-pub const LONG: [usize; 3] = [1000, INFO_LIMIT - 1, INFO_LIMIT];
+/// Longer ones: a round number, those about the former limit, and the last two that are accepted.
+pub const LONG: [usize; 6] = [
+    1000,
+    FORMER_LIMIT - 1,
+    FORMER_LIMIT,
+    FORMER_LIMIT + 1,
+    INFO_LIMIT - 1,
+    INFO_LIMIT,
+];
 
 /// How many inputs each of those lengths gets, and how many get a random length.
 const INPUTS: usize = 4;

@@ -18,7 +18,7 @@ pub fn has(faults: u32, number: u32) -> bool {
 /// Too many info bits are refused however much room there is.
 pub fn too_long(entry: Entry, random: &mut Random) -> Outcome {
     let mut cases = 0;
-    for len in [INFO_LIMIT + 1, INFO_LIMIT + 2, 5000, 65_536 + 4] {
+    for len in [INFO_LIMIT + 1, INFO_LIMIT + 2, 20_000, 65_536 + 4] {
         let info = random.bits(len);
         for room in [0, 1, 2 * len, 2 * len + 100] {
             for fill in FILLS {
@@ -66,7 +66,7 @@ pub fn faults_of_plain(random: &mut Random) -> Outcome {
 fn faulty(entry: Entry, faults: u32, random: &mut Random) -> Outcome {
     let mut cases = 0;
     for len in if has(faults, 3) {
-        [INFO_LIMIT + 1, 10_000]
+        [INFO_LIMIT + 1, 40_000]
     } else {
         [1, INFO_LIMIT]
     } {

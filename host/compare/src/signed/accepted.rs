@@ -1,5 +1,6 @@
 //! Signed bytes that the decoder accepts.
 
+use crate::FORMER_LIMIT;
 use crate::decoder::accepted::{Kind, every_buffer, list_lens};
 use crate::groups::Outcome;
 use expected::encoder::{coded_len, encode};
@@ -8,9 +9,17 @@ use expected::{INFO_LIMIT, Random};
 /// Every list of these is tried, up to a few.
 pub const VALUES: [i8; 5] = [-127, -1, 0, 1, 127];
 
-/// Every info count up to this is tried, and longer ones, the last two that are accepted among them.
+/// Every info count up to this is tried, and longer ones, those about the former limit and the last two that are
+/// accepted among them.
 pub const LENGTHS: usize = 72;
-pub const LONG: [usize; 3] = [1000, INFO_LIMIT - 1, INFO_LIMIT];
+pub const LONG: [usize; 6] = [
+    1000,
+    FORMER_LIMIT - 1,
+    FORMER_LIMIT,
+    FORMER_LIMIT + 1,
+    INFO_LIMIT - 1,
+    INFO_LIMIT,
+];
 
 pub const KINDS: [Kind<i8>; 3] = [
     Kind {

@@ -1,8 +1,8 @@
 //! The block decoder's part of the list.
 
-use super::Stored;
+use super::{FORMER_LIMIT, Stored};
 use expected::decoder::survivors;
-use expected::{INFO_LIMIT, RATES, Random, encoder};
+use expected::{RATES, Random, encoder};
 use list::decoder::{block_line, repeated_line};
 
 /// Readings of each kind: whole, fractional, such as overflow or nearly vanish, and one that is refused.
@@ -20,7 +20,7 @@ pub fn add(list: &mut Stored, random: &mut Random) {
     each_rate(list, 0, random);
     each_rate(list, 1, random);
     refusals(list);
-    limits(list);
+    former_limit(list);
 }
 
 /// Code number 2.
@@ -29,8 +29,8 @@ pub fn add_standard(list: &mut Stored, random: &mut Random) {
     each_rate(list, 2, random);
     let nan = bytes_of(&[f32::NAN]);
     for (rate, info, room, scratch) in [
-        (5, INFO_LIMIT + 1, 0, 0),
-        (4, INFO_LIMIT + 1, 0, 0),
+        (5, FORMER_LIMIT + 1, 0, 0),
+        (4, FORMER_LIMIT + 1, 0, 0),
         (4, 3, 2, 0),
         (4, 3, 3, survivors(2, 3) - 1),
         (4, 3, 3, survivors(2, 3)),
@@ -46,7 +46,7 @@ fn each_rate(list: &mut Stored, code: u8, random: &mut Random) {
     }
 }
 
-fn bytes_of(readings: &[f32]) -> Vec<u8> {
+pub(super) fn bytes_of(readings: &[f32]) -> Vec<u8> {
     readings.iter().flat_map(|reading| reading.to_le_bytes()).collect()
 }
 
@@ -93,9 +93,9 @@ fn bad_readings(list: &mut Stored, code: u8, rate: u8) {
 fn refusals(list: &mut Stored) {
     let nan = bytes_of(&[f32::NAN]);
     for (code, rate, info, room, scratch) in [
-        (3, 5, INFO_LIMIT + 1, 0, 0),
-        (1, 5, INFO_LIMIT + 1, 0, 0),
-        (1, 4, INFO_LIMIT + 1, 0, 0),
+        (3, 5, FORMER_LIMIT + 1, 0, 0),
+        (1, 5, FORMER_LIMIT + 1, 0, 0),
+        (1, 4, FORMER_LIMIT + 1, 0, 0),
         (1, 4, 3, 2, 0),
         (1, 4, 3, 3, survivors(1, 3) - 1),
         (1, 4, 3, 3, survivors(1, 3)),
@@ -111,15 +111,15 @@ fn refusals(list: &mut Stored) {
     }
 }
 
-/// A block at the limit of K7, whose scratch lacks a byte, one beyond it, and one four times as long.
-fn limits(list: &mut Stored) {
+/// A block of K7 at the former limit, whose scratch lacks a byte, one beyond it, and one four times as long.
+fn former_limit(list: &mut Stored) {
     let piece = bytes_of(&[1.0, -1.0, 0.5]);
     for (info, scratch) in [
-        (INFO_LIMIT, survivors(1, INFO_LIMIT) - 1),
-        (INFO_LIMIT + 1, survivors(1, INFO_LIMIT)),
-        (4 * INFO_LIMIT, 0),
+        (FORMER_LIMIT, survivors(1, FORMER_LIMIT) - 1),
+        (FORMER_LIMIT + 1, survivors(1, FORMER_LIMIT)),
+        (4 * FORMER_LIMIT, 0),
     ] {
-        let readings = 4 * encoder::coded_len(1, 0, INFO_LIMIT) as usize * info.div_ceil(INFO_LIMIT + 1);
+        let readings = 4 * encoder::coded_len(1, 0, FORMER_LIMIT) as usize * info.div_ceil(FORMER_LIMIT + 1);
         list.add(repeated_line(1, 0, info, &piece, readings, info, scratch));
     }
 }

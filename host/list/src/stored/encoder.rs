@@ -1,7 +1,7 @@
 //! The encoders' and the coded length's part of the list.
 
-use super::Stored;
-use expected::{INFO_LIMIT, RATES, Random, encoder};
+use super::{FORMER_LIMIT, Stored};
+use expected::{RATES, Random, encoder};
 use list::line::{Line, bytes, lent, number};
 
 /// Every word up to this many bits is listed.
@@ -19,7 +19,7 @@ pub fn add(list: &mut Stored, random: &mut Random) {
     short_words(list, &[0, 1]);
     lengths(list, &[0, 1], random);
     refusals(list, &CODE_NUMBERS, random);
-    limit(list, random);
+    former_limit(list, random);
     list.comment("p: plain conv_encode. Bits, length of out; the answer, out after the call.");
     plain(list, random);
     list.comment("l: coded length. Code, rate, info count; the answer.");
@@ -33,13 +33,13 @@ pub fn add_standard(list: &mut Stored, random: &mut Random) {
     short_words(list, &[2]);
     lengths(list, &[2], random);
     refusals(list, &[2], random);
-    encode(list, 2, 2, &random.bytes(INFO_LIMIT), room(2, 2, INFO_LIMIT) + 3);
-    encode(list, 2, 2, &random.bytes(INFO_LIMIT + 1), room(2, 0, INFO_LIMIT));
+    encode(list, 2, 2, &random.bytes(FORMER_LIMIT), room(2, 2, FORMER_LIMIT) + 3);
+    encode(list, 2, 2, &random.bytes(FORMER_LIMIT + 1), room(2, 0, FORMER_LIMIT));
     coded_lengths(list, &[2]);
     unknown_lengths(list, &[2]);
 }
 
-fn encode(list: &mut Stored, code: u8, rate: u8, info: &[u8], room: usize) {
+pub(super) fn encode(list: &mut Stored, code: u8, rate: u8, info: &[u8], room: usize) {
     let after = encoder::encode(code, rate, info, &lent(room));
     list.add(Line {
         call: format!("e {code:02x} {rate:02x} {} {room:x}", bytes(info)),
@@ -47,7 +47,7 @@ fn encode(list: &mut Stored, code: u8, rate: u8, info: &[u8], room: usize) {
     });
 }
 
-fn conv_encode(list: &mut Stored, bits: &[u8], room: usize) {
+pub(super) fn conv_encode(list: &mut Stored, bits: &[u8], room: usize) {
     let after = encoder::conv_encode(bits, &lent(room));
     list.add(Line {
         call: format!("p {} {room:x}", bytes(bits)),
@@ -55,7 +55,7 @@ fn conv_encode(list: &mut Stored, bits: &[u8], room: usize) {
     });
 }
 
-fn coded_len(list: &mut Stored, code: u8, rate: u8, info: usize) {
+pub(super) fn coded_len(list: &mut Stored, code: u8, rate: u8, info: usize) {
     list.add(Line {
         call: format!("l {code:02x} {rate:02x} {info:x}"),
         answer: format!("l {}", number(encoder::coded_len(code, rate, info))),
@@ -63,7 +63,7 @@ fn coded_len(list: &mut Stored, code: u8, rate: u8, info: usize) {
 }
 
 /// How many coded bits so many info bits give.
-fn room(code: u8, rate: u8, info: usize) -> usize {
+pub(super) fn room(code: u8, rate: u8, info: usize) -> usize {
     encoder::coded_len(code, rate, info) as usize
 }
 
@@ -115,11 +115,11 @@ fn refusals(list: &mut Stored, codes: &[u8], random: &mut Random) {
     }
 }
 
-/// At the limit with bytes to spare, one over it with room enough, and one over it with other faults.
-fn limit(list: &mut Stored, random: &mut Random) {
-    let info = random.bytes(INFO_LIMIT + 1);
-    encode(list, 1, 0, &info[..INFO_LIMIT], room(1, 0, INFO_LIMIT) + 3);
-    encode(list, 1, 4, &info, room(1, 4, INFO_LIMIT) + 2);
+/// At the former limit with bytes to spare, one over it with room enough, and one over it with faults.
+fn former_limit(list: &mut Stored, random: &mut Random) {
+    let info = random.bytes(FORMER_LIMIT + 1);
+    encode(list, 1, 0, &info[..FORMER_LIMIT], room(1, 0, FORMER_LIMIT) + 3);
+    encode(list, 1, 4, &info, room(1, 4, FORMER_LIMIT) + 2);
     encode(list, 0, 5, &info, 1);
     encode(list, 0, 3, &info, 1);
 }
@@ -133,15 +133,15 @@ fn plain(list: &mut Stored, random: &mut Random) {
         conv_encode(list, &random.bytes(len), 2 * len - 1);
         conv_encode(list, &random.bytes(len), 2 * len + 5);
     }
-    let bits = random.bytes(INFO_LIMIT + 1);
-    conv_encode(list, &bits[..INFO_LIMIT], 2 * INFO_LIMIT + 3);
+    let bits = random.bytes(FORMER_LIMIT + 1);
+    conv_encode(list, &bits[..FORMER_LIMIT], 2 * FORMER_LIMIT + 3);
     conv_encode(list, &bits, 2 * bits.len());
     conv_encode(list, &bits, 1);
 }
 
 fn coded_lengths(list: &mut Stored, codes: &[u8]) {
     each_rate(codes, |code, rate| {
-        for info in [0, 1, 2, 3, 10, INFO_LIMIT, INFO_LIMIT + 1, usize::MAX] {
+        for info in [0, 1, 2, 3, 10, FORMER_LIMIT, FORMER_LIMIT + 1, usize::MAX] {
             coded_len(list, code, rate, info);
         }
     });

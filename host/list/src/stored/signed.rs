@@ -1,9 +1,9 @@
 //! The part of the list about the block decoder of signed bytes. It comes after what stood on the list before, which so
 //! has kept its random inputs.
 
-use super::Stored;
+use super::{FORMER_LIMIT, Stored};
 use expected::decoder::survivors;
-use expected::{CODES, INFO_LIMIT, RATES, Random, encoder};
+use expected::{CODES, RATES, Random, encoder};
 use list::decoder::{repeated_signed_line, signed_line};
 
 /// Readings of each kind: of few values, so that words tie, of all sizes, and the largest.
@@ -27,8 +27,8 @@ pub fn add(list: &mut Stored, random: &mut Random) {
     ties(list);
     list.comment("Each refusal, alone and with those above it: 12 comes last.");
     refusals(list);
-    list.comment("At the limit, all readings of the largest size.");
-    limits(list);
+    list.comment("At the limit before request 2026-06, all readings of the largest size.");
+    former_limit(list);
 }
 
 fn block(list: &mut Stored, code: u8, rate: u8, info: usize, readings: &[i8], more: usize) {
@@ -86,9 +86,9 @@ fn ties(list: &mut Stored) {
 
 fn refusals(list: &mut Stored) {
     for (code, rate, info, room, scratch) in [
-        (3, 5, INFO_LIMIT + 1, 0, 0),
-        (1, 5, INFO_LIMIT + 1, 0, 0),
-        (1, 4, INFO_LIMIT + 1, 0, 0),
+        (3, 5, FORMER_LIMIT + 1, 0, 0),
+        (1, 5, FORMER_LIMIT + 1, 0, 0),
+        (1, 4, FORMER_LIMIT + 1, 0, 0),
         (1, 4, 3, 2, 0),
         (1, 4, 3, 3, survivors(1, 3) - 1),
         (1, 4, 3, 3, survivors(1, 3)),
@@ -101,19 +101,19 @@ fn refusals(list: &mut Stored) {
     }
 }
 
-/// Accepted by K5, with a -128 that is surplus; by K7 refused, for a byte that scratch lacks, for a -128 at the last place
-/// that is used, and for an info bit too many.
-fn limits(list: &mut Stored) {
-    let mut readings = vec![-127; coded_len(0, 0, INFO_LIMIT)];
+/// At the former limit accepted by K5, with a -128 that is surplus; by K7 refused, for a -128 at the last place that is
+/// used, and for a byte that scratch lacks, at the limit and beyond it.
+fn former_limit(list: &mut Stored) {
+    let mut readings = vec![-127; coded_len(0, 0, FORMER_LIMIT)];
     readings.push(-128);
-    block(list, 0, 0, INFO_LIMIT, &readings, 0);
-    let coded = coded_len(1, 0, INFO_LIMIT);
+    block(list, 0, 0, FORMER_LIMIT, &readings, 0);
+    let coded = coded_len(1, 0, FORMER_LIMIT);
     let mut readings = vec![127; coded];
     readings[coded - 1] = -128;
-    block(list, 1, 0, INFO_LIMIT, &readings, 0);
+    block(list, 1, 0, FORMER_LIMIT, &readings, 0);
     for (info, scratch) in [
-        (INFO_LIMIT, survivors(1, INFO_LIMIT) - 1),
-        (INFO_LIMIT + 1, survivors(1, INFO_LIMIT)),
+        (FORMER_LIMIT, survivors(1, FORMER_LIMIT) - 1),
+        (FORMER_LIMIT + 1, survivors(1, FORMER_LIMIT)),
     ] {
         list.add(repeated_signed_line(1, 0, info, &[127, -127], coded, info, scratch));
     }

@@ -1,7 +1,7 @@
 //! The part of the list about the block decoders of symbols.
 
-use super::Stored;
-use expected::{INFO_LIMIT, Random};
+use super::{FORMER_LIMIT, Stored};
+use expected::Random;
 use list::symbols::{hard_line, soft_line, survivors};
 
 const LENGTHS: [usize; 8] = [0, 1, 2, 4, 5, 15, 16, 17];
@@ -36,7 +36,7 @@ fn soft(list: &mut Stored, random: &mut Random) {
             list.add(soft_line(&values, 4, survivors(4)));
         }
     }
-    let many = vec![f32::NAN; 2 * (INFO_LIMIT + 1)];
+    let many = vec![f32::NAN; 2 * (FORMER_LIMIT + 1)];
     for (len, room, scratch) in [(many.len(), 0, 0), (6, 2, 0), (6, 3, 47), (6, 3, 48)] {
         list.add(soft_line(&many[..len], room, scratch));
     }
@@ -52,7 +52,7 @@ fn hard(list: &mut Stored, random: &mut Random) {
             ));
         }
     }
-    let many = vec![1; 2 * (INFO_LIMIT + 1)];
+    let many = vec![1; 2 * (FORMER_LIMIT + 1)];
     for (len, room, scratch) in [(many.len(), 0, 0), (6, 2, 0), (6, 3, 47)] {
         list.add(hard_line(&many[..len], room, scratch));
     }
