@@ -1,9 +1,8 @@
 /* The relay coder's doors for C and C++: the proved encoders, the coded length and the two block decoders of readings,
- * of floats and of signed bytes, each of which has a door that also counts. All but the doors of signed bytes are in
- * target/native/libdoors.a, which `tools/native staticlib doors` makes; examples/c/decode.c shows a use.
- * relay_decode_signed and relay_decode_signed_counted are in target/native/libradio.a, which
- * `tools/native staticlib radio` makes. That archive needs no other and has no float instruction, for processors
- * without floats; examples/c/decode_signed.c shows a use.
+ * of floats and of signed bytes. All but relay_decode_signed are in target/native/libdoors.a, which
+ * `tools/native staticlib doors` makes; examples/c/decode.c shows a use. relay_decode_signed is in
+ * target/native/libradio.a, which `tools/native staticlib radio` makes. That archive needs no other and has no float
+ * instruction, for processors without floats; examples/c/decode_signed.c shows a use.
  *
  * Numbers and bytes:
  *   code     0: K = 5
@@ -12,7 +11,7 @@
  *               as 1; at the other rates a receiver for the one does not read what the other sends.
  *   rate     0 to 4: 1/2, 2/3, 3/4, 5/6, 7/8
  *   a bit    a byte. Of one that is read only the lowest bit counts; one that is written is 0 or 1.
- *   lengths  each stands behind its pointer and counts bytes, but counts_len, which counts uint32_t.
+ *   lengths  each stands behind its pointer and counts bytes.
  *
  * The answer is a count or the score's 32 bits, and then below 2^32; or a refusal, its number times 2^32 plus the
  * place:
@@ -25,17 +24,17 @@
  *   1   the code is above 2
  *   2   the rate is above 4
  *   3   there are more than 16384 info bits
- *   4   out or counts is shorter than needed
+ *   4   out is shorter than needed
  *   5   scratch is shorter than needed
  *   6   a used reading is NaN or infinite; the place is the index of the first one, counted in readings
  *   12  a used signed byte is -128; the place is the index of the first one
  *
  * Where several apply the lowest is given. The place is 0 but for 6 and 12. A refusal changes no byte.
  *
- * An accepted call writes the front of out, scratch and counts, as said below, and leaves what lies beyond as it was.
- * Nothing has to be cleared before. A longer buffer than needed is no refusal. No two buffers of a call may overlap,
- * and each must have the length given: a door cannot test these. A pointer may be null where the length is 0. The
- * doors keep no state and take no memory but the stack, some 1 kB of it, however long the lists are.
+ * An accepted call writes the front of out and scratch, as said below, and leaves what lies beyond as it was. Nothing
+ * has to be cleared before. A longer buffer than needed is no refusal. No two buffers of a call may overlap, and each
+ * must have the length given: a door cannot test these. A pointer may be null where the length is 0. The doors keep no
+ * state and take no memory but the stack, some 1 kB of it, however long the lists are.
  */
 #ifndef RELAY_H
 #define RELAY_H
@@ -62,8 +61,8 @@ uint64_t relay_coded_len(uint8_t code, uint8_t rate, size_t info);
  * proved for whole readings whose absolute values sum to at most 2^24; with others every sum is rounded to a float.
  *
  * A reading is a 32-bit IEEE float in four bytes, low first: above 0 for a coded bit 0, below 0 for a 1, in the order
- * of the coded bits. Those missing at the end are taken for 0.0; those beyond the coded length, and a last piece under
- * four bytes, are neither used nor examined. The pointer needs no alignment.
+ * of the coded bits. Those missing at the end count as 0.0; those beyond the coded length, and a last piece under four
+ * bytes, are neither used nor examined. The pointer needs no alignment.
  *
  * out needs info bytes, and gets the word. scratch needs (info + K-1) * 2^(K-1) bytes, that is (info + 4) * 16 for code
  * 0 and (info + 6) * 64 for 1 and 2, and gets the survivors. Answers the bits of a float, the score: the readings where
@@ -71,23 +70,10 @@ uint64_t relay_coded_len(uint8_t code, uint8_t rate, size_t info);
 uint64_t relay_decode(uint8_t code, uint8_t rate, size_t info, const uint8_t *readings, size_t readings_len,
                       uint8_t *out, size_t out_len, uint8_t *scratch, size_t scratch_len);
 
-/* Does and answers what relay_decode does, and counts too. counts needs two uint32_t, aligned as such, and gets
+/* The same of readings that are signed bytes, in whole numbers: of libradio.a, where no float is.
  *
- *   counts[0]   heard: how many places were received, the smaller of relay_coded_len and the number of readings
- *   counts[1]   against: at how many of them the reading is not 0 and says otherwise than the word's coded bit, being
- *               below 0 where that is 0, or above 0 where it is 1
- *
- * so that a received 0.0 is heard, of either sign, and against nothing, while a place where nothing was received is not
- * heard. The coded bits of the K-1 zeros behind the info bits count as any others; readings beyond the coded length do
- * not. A counts_len below 2 is refusal 4. Refusals 1 to 6. */
-uint64_t relay_decode_counted(uint8_t code, uint8_t rate, size_t info, const uint8_t *readings, size_t readings_len,
-                              uint8_t *out, size_t out_len, uint8_t *scratch, size_t scratch_len, uint32_t *counts,
-                              size_t counts_len);
-
-/* The same as relay_decode, of readings that are signed bytes, in whole numbers: of libradio.a, where no float is.
- *
- * A reading is one byte from -127 to 127; -128 is refused where it is used. Those missing at the end are taken for 0;
- * those beyond the coded length are neither used nor examined. That the word is the best is proved for every list of
+ * A reading is one byte from -127 to 127; -128 is refused where it is used. Those missing at the end count as 0; those
+ * beyond the coded length are neither used nor examined. That the word is the best is proved for every list of
  * readings.
  *
  * out and scratch are as for relay_decode. Answers the score's 32 bits in two's complement:
@@ -95,12 +81,6 @@ uint64_t relay_decode_counted(uint8_t code, uint8_t rate, size_t info, const uin
  * floats, and its score is this one as a float. Refusals 1 to 5 and 12. */
 uint64_t relay_decode_signed(uint8_t code, uint8_t rate, size_t info, const int8_t *readings, size_t readings_len,
                              uint8_t *out, size_t out_len, uint8_t *scratch, size_t scratch_len);
-
-/* Does and answers what relay_decode_signed does, and counts as relay_decode_counted does: of libradio.a too.
- * Refusals 1 to 5 and 12. */
-uint64_t relay_decode_signed_counted(uint8_t code, uint8_t rate, size_t info, const int8_t *readings,
-                                     size_t readings_len, uint8_t *out, size_t out_len, uint8_t *scratch,
-                                     size_t scratch_len, uint32_t *counts, size_t counts_len);
 
 #ifdef __cplusplus
 }

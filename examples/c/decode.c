@@ -1,6 +1,5 @@
-/* Encodes the word 1011, takes the coded bits for readings, decodes these and prints the word, its score, how many
- * places were heard and how many of these were against the word. tools/example-c builds and runs it;
- * host/examples/decode.rs is the same in Rust. */
+/* Encodes the word 1011, takes the coded bits for readings, decodes these and prints the word and its score.
+ * tools/example-c builds and runs it; host/examples/decode.rs is the same in Rust. */
 #include "relay.h"
 #include <stdio.h>
 #include <string.h>
@@ -11,15 +10,14 @@ enum { K5 = 0, HALF = 0, INFO = 4, STEPS = INFO + 4, CODED = 2 * STEPS, STATES =
 int main(void) {
     const uint8_t info[INFO] = {1, 0, 1, 1};
     uint8_t coded[CODED], word[INFO], scratch[STEPS * STATES];
-    uint32_t counts[2];
     float readings[CODED], score;
 
     if (relay_encode(K5, HALF, info, INFO, coded, CODED) != CODED) return 1;
     for (int i = 0; i < CODED; i++) readings[i] = coded[i] ? -1.0f : 1.0f;
 
     /* A door takes readings as bytes, low first, which is how x86-64 and aarch64 keep a float. */
-    uint64_t answer = relay_decode_counted(K5, HALF, INFO, (const uint8_t *)readings, sizeof readings, word,
-                                           sizeof word, scratch, sizeof scratch, counts, 2);
+    uint64_t answer = relay_decode(K5, HALF, INFO, (const uint8_t *)readings, sizeof readings, word, sizeof word,
+                                   scratch, sizeof scratch);
     uint32_t number = (uint32_t)(answer >> 32), low = (uint32_t)answer;
     if (number != 0) {
         printf("refused %u at %u\n", (unsigned)number, (unsigned)low);
@@ -28,6 +26,6 @@ int main(void) {
     memcpy(&score, &low, sizeof score);
     printf("word ");
     for (int i = 0; i < INFO; i++) printf("%d", word[i]);
-    printf(" score %g heard %u against %u\n", score, (unsigned)counts[0], (unsigned)counts[1]);
+    printf(" score %g\n", score);
     return 0;
 }

@@ -1,7 +1,6 @@
-/* Decodes the word 1011 from signed bytes, one of them damaged, and prints the word, its score, how many places were
- * heard and how many of these were against the word: the damaged one. There is no float here, nor in libradio.a, the
- * one archive that it is linked with; tools/example-c builds and runs it. host/examples/decode_signed.rs is the same
- * in Rust. */
+/* Decodes the word 1011 from signed bytes, one of them damaged, and prints the word and its score. There is no float
+ * here, nor in libradio.a, the one archive that it is linked with; tools/example-c builds and runs it.
+ * host/examples/decode_signed.rs is the same in Rust. */
 #include "relay.h"
 #include <stdio.h>
 
@@ -14,13 +13,12 @@ int main(void) {
     const uint8_t coded[CODED] = {1, 1, 0, 0, 0, 1, 1, 0, 0, 1, 1, 1, 1, 0, 1, 1};
     int8_t readings[CODED];
     uint8_t word[INFO], scratch[STEPS * STATES];
-    uint32_t counts[2];
 
     for (int i = 0; i < CODED; i++) readings[i] = coded[i] ? -100 : 100;
     readings[2] = -30;
 
-    uint64_t answer = relay_decode_signed_counted(K5, HALF, INFO, readings, sizeof readings, word, sizeof word, scratch,
-                                                  sizeof scratch, counts, 2);
+    uint64_t answer = relay_decode_signed(K5, HALF, INFO, readings, sizeof readings, word, sizeof word, scratch,
+                                          sizeof scratch);
     uint32_t number = (uint32_t)(answer >> 32), low = (uint32_t)answer;
     if (number != 0) {
         printf("refused %u at %u\n", (unsigned)number, (unsigned)low);
@@ -28,6 +26,6 @@ int main(void) {
     }
     printf("word ");
     for (int i = 0; i < INFO; i++) printf("%d", word[i]);
-    printf(" score %d heard %u against %u\n", (int)(int32_t)low, (unsigned)counts[0], (unsigned)counts[1]);
+    printf(" score %d\n", (int)(int32_t)low);
     return 0;
 }

@@ -1,5 +1,5 @@
-//! Encodes the word 1011, takes the coded bits for readings, decodes these and prints the word, its score, how many
-//! places were heard and how many of these were against the word. `examples/c/decode.c` is the same in C.
+//! Encodes the word 1011, takes the coded bits for readings, decodes these and prints the word and its score.
+//! `examples/c/decode.c` is the same in C.
 
 use relay_coder::{Code, Rate, Refusal, decode, encode};
 
@@ -9,9 +9,6 @@ fn main() -> Result<(), Refusal> {
     let readings: Vec<f32> = coded.iter().map(|bit| if *bit == 0 { 1.0 } else { -1.0 }).collect();
     let word = decode(Code::K5, Rate::R1_2, info.len(), &readings)?;
     let bits: String = word.bits.iter().map(u8::to_string).collect();
-    println!(
-        "word {bits} score {} heard {} against {}",
-        word.score, word.heard, word.against
-    );
+    println!("word {bits} score {}", word.score);
     Ok(())
 }

@@ -1,6 +1,5 @@
-//! Encodes the word 1011, takes the coded bits for signed bytes, damages one, decodes these and prints the word, its
-//! score, how many places were heard and how many of these were against the word: the damaged one.
-//! `examples/c/decode_signed.c` is the same in C.
+//! Encodes the word 1011, takes the coded bits for signed bytes, damages one, decodes these and prints the word and its
+//! score. `examples/c/decode_signed.c` is the same in C.
 
 use relay_coder::{Code, Rate, Refusal, decode_signed, encode};
 
@@ -11,9 +10,6 @@ fn main() -> Result<(), Refusal> {
     readings[2] = -30;
     let word = decode_signed(Code::K5, Rate::R1_2, info.len(), &readings)?;
     let bits: String = word.bits.iter().map(u8::to_string).collect();
-    println!(
-        "word {bits} score {} heard {} against {}",
-        word.score, word.heard, word.against
-    );
+    println!("word {bits} score {}", word.score);
     Ok(())
 }

@@ -1,8 +1,8 @@
 //! The block decoder of readings, with types for code and rate.
 //!
 //! A reading is how surely a coded bit was received: above 0 for a 0, below 0 for a 1. Readings stand in the order
-//! of the coded bits. Those that are missing at the end are taken for 0.0, but are not heard, as a received 0.0 is;
-//! those beyond the coded length are not looked at.
+//! of the coded bits. Those that are missing at the end count as 0.0; those beyond the coded length are not looked
+//! at.
 
 use crate::encoder::{Code, Rate, room_for};
 use crate::refusal::{Refusal, score};
@@ -15,18 +15,6 @@ pub struct Word {
     pub bits: Vec<u8>,
     /// The winning score: the readings where the word's coded bits are 0, less those where they are 1.
     pub score: f32,
-    /// How many places were received: as many as there are readings, and at most the coded length.
-    pub heard: u32,
-    /// How many received readings are not 0 and say otherwise than the word's coded bit, those of the tail among them.
-    pub against: u32,
-}
-
-/// How well a word does whose bits stand in the caller's own buffer; the fields are those of [`Word`].
-#[derive(Debug, Clone, Copy, PartialEq)]
-pub struct Marks {
-    pub score: f32,
-    pub heard: u32,
-    pub against: u32,
 }
 
 /// How many bytes of scratch the decoding of `info` bits needs: a survivor for each state at each step. A count so huge
@@ -53,22 +41,15 @@ pub fn scratch_len(code: Code, info: usize) -> usize {
 ///
 /// let word = decode(Code::K5, Rate::R1_2, 1, &[-1.0]).unwrap();
 /// assert_eq!((word.bits, word.score), (vec![1], 1.0));
-/// assert_eq!((word.heard, word.against), (1, 0));
 ///
 /// let refusal = decode(Code::K5, Rate::R1_2, 1, &[0.5, f32::NAN]).unwrap_err();
 /// assert_eq!(refusal.to_string(), "refused 6 at 1");
 /// ```
 pub fn decode(code: Code, rate: Rate, info: usize, readings: &[f32]) -> Result<Word, Refusal> {
-    let (bits, marks) = with_buffers(code, info, |out, scratch| {
-        decode_counted_into(code, rate, info, readings, out, scratch)
+    let (bits, score) = with_buffers(code, info, |out, scratch| {
+        decode_into(code, rate, info, readings, out, scratch)
     })?;
-    let Marks { score, heard, against } = marks;
-    Ok(Word {
-        bits,
-        score,
-        heard,
-        against,
-    })
+    Ok(Word { bits, score })
 }
 
 /// The same with buffers of the caller's own. Writes the word to the first `info` bytes of `out` and the survivors
@@ -95,41 +76,14 @@ pub fn decode_into(
     score(doors::decode(code as u8, rate as u8, info, readings, out, scratch))
 }
 
-/// The same as [`decode_into`], and gives the counts beside the score. Here the first of ten coded bits, a 1, is
-/// damaged, and of the last nothing but a 0 was received:
-///
-/// ```
-/// use relay_coder::{Code, Marks, Rate, decode_counted_into, scratch_len};
-///
-/// let readings = [0.5, -1.0, 1.0, 1.0, -1.0, 1.0, 1.0, -1.0, -1.0, 0.0];
-/// let mut out = [7; 2];
-/// let mut scratch = vec![0; scratch_len(Code::K5, 1)];
-/// let marks = decode_counted_into(Code::K5, Rate::R1_2, 1, &readings, &mut out, &mut scratch);
-/// assert_eq!(out, [1, 7]);
-/// assert_eq!(marks, Ok(Marks { score: 7.5, heard: 10, against: 1 }));
-/// ```
-pub fn decode_counted_into(
-    code: Code,
-    rate: Rate,
-    info: usize,
-    readings: &[f32],
-    out: &mut [u8],
-    scratch: &mut [u8],
-) -> Result<Marks, Refusal> {
-    let (readings, counts) = (slices::bytes_of(readings), &mut [0; 2]);
-    let answer = doors::decode_counted(code as u8, rate as u8, info, readings, out, scratch, counts);
-    let (score, [heard, against]) = (score(answer)?, *counts);
-    Ok(Marks { score, heard, against })
-}
-
 /// Lends new buffers, just long enough for `info` bits, to a decoding: the bits that it writes, and what it gives.
-pub(crate) fn with_buffers<M>(
+pub(crate) fn with_buffers<S>(
     code: Code,
     info: usize,
-    decoding: impl FnOnce(&mut [u8], &mut [u8]) -> Result<M, Refusal>,
-) -> Result<(Vec<u8>, M), Refusal> {
+    decoding: impl FnOnce(&mut [u8], &mut [u8]) -> Result<S, Refusal>,
+) -> Result<(Vec<u8>, S), Refusal> {
     let room = room_for(info);
     let mut bits = vec![0; room];
-    let marks = decoding(&mut bits, &mut vec![0; scratch_len(code, room)])?;
-    Ok((bits, marks))
+    let score = decoding(&mut bits, &mut vec![0; scratch_len(code, room)])?;
+    Ok((bits, score))
 }

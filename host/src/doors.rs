@@ -1,12 +1,10 @@
 //! The doors themselves, with 01's numbers for code and rate, safe to call with any.
 //!
 //! Each returns the count or the score's 32 bits, or on a refusal its number times 2^32 plus the place. An accepted
-//! call writes the front of what it was lent and nothing beyond; a refused one writes nothing. A counted door writes
-//! two counts besides: how many places were heard, and how many of these were against the decoded word.
+//! call writes the front of what it was lent and nothing beyond; a refused one writes nothing.
 
 mod foreign {
-    // A slice crosses as a pointer and then a length, in elements. The doors of signed bytes are in an archive of their
-    // own, libradio.a.
+    // A slice crosses as a pointer and then a length. The last door is in an archive of its own, libradio.a.
     unsafe extern "C" {
         pub fn relay_conv_encode(bits: *const u8, bits_len: usize, out: *mut u8, out_len: usize) -> u64;
         pub fn relay_encode(code: u8, rate: u8, info: *const u8, info_len: usize, out: *mut u8, out_len: usize) -> u64;
@@ -22,19 +20,6 @@ mod foreign {
             scratch: *mut u8,
             scratch_len: usize,
         ) -> u64;
-        pub fn relay_decode_counted(
-            code: u8,
-            rate: u8,
-            info: usize,
-            readings: *const u8,
-            readings_len: usize,
-            out: *mut u8,
-            out_len: usize,
-            scratch: *mut u8,
-            scratch_len: usize,
-            counts: *mut u32,
-            counts_len: usize,
-        ) -> u64;
         pub fn relay_decode_signed(
             code: u8,
             rate: u8,
@@ -46,28 +31,11 @@ mod foreign {
             scratch: *mut u8,
             scratch_len: usize,
         ) -> u64;
-        pub fn relay_decode_signed_counted(
-            code: u8,
-            rate: u8,
-            info: usize,
-            readings: *const i8,
-            readings_len: usize,
-            out: *mut u8,
-            out_len: usize,
-            scratch: *mut u8,
-            scratch_len: usize,
-            counts: *mut u32,
-            counts_len: usize,
-        ) -> u64;
     }
 }
 
 /// A block decoder's door. What a reading crosses as is `R`.
 type BlockDoor<R> = unsafe extern "C" fn(u8, u8, usize, *const R, usize, *mut u8, usize, *mut u8, usize) -> u64;
-
-/// The same with counts behind the rest.
-type CountedDoor<R> =
-    unsafe extern "C" fn(u8, u8, usize, *const R, usize, *mut u8, usize, *mut u8, usize, *mut u32, usize) -> u64;
 
 /// The plain K5 encoder at rate 1/2, with no zeros after the bits. Refusals 3 and 4.
 pub fn conv_encode(bits: &[u8], out: &mut [u8]) -> u64 {
@@ -101,38 +69,6 @@ pub fn decode_signed(code: u8, rate: u8, info: usize, readings: &[i8], out: &mut
     unsafe { lend(foreign::relay_decode_signed, code, rate, info, readings, out, scratch) }
 }
 
-/// Does and answers what `decode` does, and writes two counts to the front of `counts`: how many places were received,
-/// and how many of their readings are not 0 and say otherwise than the word's coded bit. A `counts` of fewer than two
-/// gives refusal 4, as a short `out` does. Refusals 1 to 6.
-pub fn decode_counted(
-    code: u8,
-    rate: u8,
-    info: usize,
-    readings: &[u8],
-    out: &mut [u8],
-    scratch: &mut [u8],
-    counts: &mut [u32],
-) -> u64 {
-    let door = foreign::relay_decode_counted;
-    // SAFETY: as in `decode`.
-    unsafe { lend_counted(door, code, rate, info, readings, [out, scratch], counts) }
-}
-
-/// Does and answers what `decode_signed` does, and counts as `decode_counted` does. Refusals 1 to 5 and 12.
-pub fn decode_signed_counted(
-    code: u8,
-    rate: u8,
-    info: usize,
-    readings: &[i8],
-    out: &mut [u8],
-    scratch: &mut [u8],
-    counts: &mut [u32],
-) -> u64 {
-    let door = foreign::relay_decode_signed_counted;
-    // SAFETY: as in `decode`.
-    unsafe { lend_counted(door, code, rate, info, readings, [out, scratch], counts) }
-}
-
 /// Lends the slices to a block decoder.
 ///
 /// # Safety
@@ -159,38 +95,6 @@ unsafe fn lend<R>(
             out.len(),
             scratch.as_mut_ptr(),
             scratch.len(),
-        )
-    }
-}
-
-/// Lends out, scratch and counts to a block decoder that counts.
-///
-/// # Safety
-///
-/// As for `lend`.
-unsafe fn lend_counted<R>(
-    door: CountedDoor<R>,
-    code: u8,
-    rate: u8,
-    info: usize,
-    readings: &[R],
-    [out, scratch]: [&mut [u8]; 2],
-    counts: &mut [u32],
-) -> u64 {
-    // SAFETY: the four slices are live and do not overlap; the rest is the caller's to see to.
-    unsafe {
-        door(
-            code,
-            rate,
-            info,
-            readings.as_ptr(),
-            readings.len(),
-            out.as_mut_ptr(),
-            out.len(),
-            scratch.as_mut_ptr(),
-            scratch.len(),
-            counts.as_mut_ptr(),
-            counts.len(),
         )
     }
 }

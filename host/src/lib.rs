@@ -15,9 +15,6 @@
 //! readings[0] = 0.25;
 //! let word = decode(Code::K5, Rate::R3_4, 1, &readings).unwrap();
 //! assert_eq!(word.bits, [1]);
-//!
-//! // Seven readings came, and one of them goes against the word.
-//! assert_eq!((word.heard, word.against), (7, 1));
 //! ```
 
 mod decoder;
@@ -27,7 +24,7 @@ mod refusal;
 mod signed;
 mod slices;
 
-pub use decoder::{Marks, Word, decode, decode_counted_into, decode_into, scratch_len};
+pub use decoder::{Word, decode, decode_into, scratch_len};
 pub use encoder::{Code, INFO_LIMIT, Rate, coded_len, conv_encode, conv_encode_into, encode, encode_into};
 pub use refusal::{Refusal, count, score, signed_score};
-pub use signed::{SignedMarks, SignedWord, decode_signed, decode_signed_counted_into, decode_signed_into};
+pub use signed::{SignedWord, decode_signed, decode_signed_into};

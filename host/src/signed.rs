@@ -2,8 +2,8 @@
 //! float.
 //!
 //! A reading is from -127 to 127, above 0 for a coded bit 0, below 0 for a 1. Readings stand in the order of the coded
-//! bits. Those that are missing at the end are taken for 0, but are not heard, as a received 0 is; those beyond the
-//! coded length are not looked at. A used one that is -128 gives refusal 12.
+//! bits. Those that are missing at the end count as 0; those beyond the coded length are not looked at. A used one that
+//! is -128 gives refusal 12.
 
 use crate::decoder::with_buffers;
 use crate::doors;
@@ -17,18 +17,6 @@ pub struct SignedWord {
     pub bits: Vec<u8>,
     /// The winning score: the readings where the word's coded bits are 0, less those where they are 1.
     pub score: i32,
-    /// How many places were received, as in [`Word`](crate::Word).
-    pub heard: u32,
-    /// How many received readings are not 0 and say otherwise than the word's coded bit, those of the tail among them.
-    pub against: u32,
-}
-
-/// How well a word does whose bits stand in the caller's own buffer; the fields are those of [`SignedWord`].
-#[derive(Debug, Clone, Copy, PartialEq, Eq)]
-pub struct SignedMarks {
-    pub score: i32,
-    pub heard: u32,
-    pub against: u32,
 }
 
 /// The word of `info` bits that the readings fit best; of equal ones always the same, which is the one that
@@ -39,22 +27,15 @@ pub struct SignedMarks {
 ///
 /// let word = decode_signed(Code::K5, Rate::R1_2, 1, &[-1]).unwrap();
 /// assert_eq!((word.bits, word.score), (vec![1], 1));
-/// assert_eq!((word.heard, word.against), (1, 0));
 ///
 /// let refusal = decode_signed(Code::K5, Rate::R1_2, 1, &[127, -128]).unwrap_err();
 /// assert_eq!(refusal.to_string(), "refused 12 at 1");
 /// ```
 pub fn decode_signed(code: Code, rate: Rate, info: usize, readings: &[i8]) -> Result<SignedWord, Refusal> {
-    let (bits, marks) = with_buffers(code, info, |out, scratch| {
-        decode_signed_counted_into(code, rate, info, readings, out, scratch)
+    let (bits, score) = with_buffers(code, info, |out, scratch| {
+        decode_signed_into(code, rate, info, readings, out, scratch)
     })?;
-    let SignedMarks { score, heard, against } = marks;
-    Ok(SignedWord {
-        bits,
-        score,
-        heard,
-        against,
-    })
+    Ok(SignedWord { bits, score })
 }
 
 /// The same with buffers of the caller's own, which are as for [`decode_into`](crate::decode_into). Gives the score.
@@ -78,31 +59,4 @@ pub fn decode_signed_into(
     signed_score(doors::decode_signed(
         code as u8, rate as u8, info, readings, out, scratch,
     ))
-}
-
-/// The same as [`decode_signed_into`], and gives the counts beside the score. Here the first of ten coded bits, a 1, is
-/// damaged, and of the last nothing but a 0 was received:
-///
-/// ```
-/// use relay_coder::{Code, Rate, SignedMarks, decode_signed_counted_into, scratch_len};
-///
-/// let readings = [50, -100, 100, 100, -100, 100, 100, -100, -100, 0];
-/// let mut out = [7; 2];
-/// let mut scratch = vec![0; scratch_len(Code::K5, 1)];
-/// let marks = decode_signed_counted_into(Code::K5, Rate::R1_2, 1, &readings, &mut out, &mut scratch);
-/// assert_eq!(out, [1, 7]);
-/// assert_eq!(marks, Ok(SignedMarks { score: 750, heard: 10, against: 1 }));
-/// ```
-pub fn decode_signed_counted_into(
-    code: Code,
-    rate: Rate,
-    info: usize,
-    readings: &[i8],
-    out: &mut [u8],
-    scratch: &mut [u8],
-) -> Result<SignedMarks, Refusal> {
-    let counts = &mut [0; 2];
-    let answer = doors::decode_signed_counted(code as u8, rate as u8, info, readings, out, scratch, counts);
-    let (score, [heard, against]) = (signed_score(answer)?, *counts);
-    Ok(SignedMarks { score, heard, against })
 }

@@ -5,13 +5,10 @@ use relay_coder::{Code, INFO_LIMIT, Rate, Refusal, Word, coded_len, decode, deco
 const RATES: [Rate; 5] = [Rate::R1_2, Rate::R2_3, Rate::R3_4, Rate::R5_6, Rate::R7_8];
 const CODES: [Code; 3] = [Code::K5, Code::DvbK7, Code::En300744];
 
-/// A word, its score, how many places were heard, and how many of these were against it.
-fn word(bits: &[u8], score: f32, heard: usize, against: u32) -> Result<Word, Refusal> {
+fn word(bits: &[u8], score: f32) -> Result<Word, Refusal> {
     Ok(Word {
         bits: bits.to_vec(),
         score,
-        heard: heard as u32,
-        against,
     })
 }
 
@@ -26,24 +23,24 @@ fn clean(bit: &u8) -> f32 {
 
 #[test]
 fn reading_minus_1_gives_word_1_score_1() {
-    assert_eq!(decode(Code::K5, Rate::R1_2, 1, &[-1.0]), word(&[1], 1.0, 1, 0));
+    assert_eq!(decode(Code::K5, Rate::R1_2, 1, &[-1.0]), word(&[1], 1.0));
 }
 
 #[test]
 fn readings_minus_1_and_1_tie_and_give_word_0() {
-    assert_eq!(decode(Code::K5, Rate::R1_2, 1, &[-1.0, 1.0]), word(&[0], 0.0, 2, 1));
+    assert_eq!(decode(Code::K5, Rate::R1_2, 1, &[-1.0, 1.0]), word(&[0], 0.0));
 }
 
 #[test]
 fn no_readings_give_000_score_0() {
-    assert_eq!(decode(Code::K5, Rate::R1_2, 3, &[]), word(&[0, 0, 0], 0.0, 0, 0));
+    assert_eq!(decode(Code::K5, Rate::R1_2, 3, &[]), word(&[0, 0, 0], 0.0));
 }
 
 #[test]
 fn a_nan_is_refused_where_it_is_used() {
     let mut readings = [1.0; 11];
     readings[10] = f32::NAN;
-    assert_eq!(decode(Code::K5, Rate::R1_2, 1, &readings), word(&[0], 10.0, 10, 0));
+    assert_eq!(decode(Code::K5, Rate::R1_2, 1, &readings), word(&[0], 10.0));
     readings[9] = f32::NAN;
     assert_eq!(decode(Code::K5, Rate::R1_2, 1, &readings), Err(refusal(6, 9)));
 }
@@ -52,7 +49,7 @@ fn a_nan_is_refused_where_it_is_used() {
 fn info_16384_is_accepted_and_16385_gives_3() {
     for code in CODES {
         for rate in RATES {
-            assert_eq!(decode(code, rate, INFO_LIMIT, &[]), word(&[0; 16_384], 0.0, 0, 0));
+            assert_eq!(decode(code, rate, INFO_LIMIT, &[]), word(&[0; 16_384], 0.0));
             assert_eq!(decode(code, rate, INFO_LIMIT + 1, &[]), Err(refusal(3, 0)));
             assert_eq!(decode(code, rate, usize::MAX, &[]), Err(refusal(3, 0)));
         }
@@ -64,7 +61,7 @@ fn info_4096_and_4097_are_accepted() {
     for code in CODES {
         for rate in RATES {
             for info in [4096, 4097] {
-                assert_eq!(decode(code, rate, info, &[]), word(&vec![0; info], 0.0, 0, 0));
+                assert_eq!(decode(code, rate, info, &[]), word(&vec![0; info], 0.0));
             }
         }
     }
@@ -78,10 +75,7 @@ fn a_clean_codeword_comes_back_with_its_length_as_score() {
             for rate in RATES {
                 let readings: Vec<f32> = encode(code, rate, &info).unwrap().iter().map(clean).collect();
                 let length = coded_len(code, rate, info.len()).unwrap();
-                assert_eq!(
-                    decode(code, rate, info.len(), &readings),
-                    word(&info, length as f32, length, 0)
-                );
+                assert_eq!(decode(code, rate, info.len(), &readings), word(&info, length as f32));
             }
         }
     }

@@ -9,13 +9,10 @@ use relay_coder::{
 const RATES: [Rate; 5] = [Rate::R1_2, Rate::R2_3, Rate::R3_4, Rate::R5_6, Rate::R7_8];
 const CODES: [Code; 3] = [Code::K5, Code::DvbK7, Code::En300744];
 
-/// A word, its score, how many places were heard, and how many of these were against it.
-fn word(bits: &[u8], score: i32, heard: u32, against: u32) -> Result<SignedWord, Refusal> {
+fn word(bits: &[u8], score: i32) -> Result<SignedWord, Refusal> {
     Ok(SignedWord {
         bits: bits.to_vec(),
         score,
-        heard,
-        against,
     })
 }
 
@@ -30,36 +27,30 @@ fn clean(bit: &u8) -> i8 {
 
 #[test]
 fn reading_minus_1_gives_word_1_score_1() {
-    assert_eq!(decode_signed(Code::K5, Rate::R1_2, 1, &[-1]), word(&[1], 1, 1, 0));
+    assert_eq!(decode_signed(Code::K5, Rate::R1_2, 1, &[-1]), word(&[1], 1));
 }
 
 #[test]
 fn readings_minus_127_and_127_tie_and_give_word_0() {
-    assert_eq!(
-        decode_signed(Code::K5, Rate::R1_2, 1, &[-127, 127]),
-        word(&[0], 0, 2, 1)
-    );
+    assert_eq!(decode_signed(Code::K5, Rate::R1_2, 1, &[-127, 127]), word(&[0], 0));
 }
 
 #[test]
 fn no_readings_give_000_score_0() {
-    assert_eq!(decode_signed(Code::K5, Rate::R1_2, 3, &[]), word(&[0, 0, 0], 0, 0, 0));
+    assert_eq!(decode_signed(Code::K5, Rate::R1_2, 3, &[]), word(&[0, 0, 0], 0));
 }
 
 #[test]
 fn a_score_is_below_0_where_no_word_agrees() {
-    assert_eq!(
-        decode_signed(Code::K5, Rate::R1_2, 0, &[-127; 8]),
-        word(&[], -8 * 127, 8, 8)
-    );
-    assert_eq!(decode_signed(Code::K5, Rate::R1_2, 0, &[-1]), word(&[], -1, 1, 1));
+    assert_eq!(decode_signed(Code::K5, Rate::R1_2, 0, &[-127; 8]), word(&[], -8 * 127));
+    assert_eq!(decode_signed(Code::K5, Rate::R1_2, 0, &[-1]), word(&[], -1));
 }
 
 #[test]
 fn a_minus_128_is_refused_where_it_is_used() {
     let mut readings = [1; 11];
     readings[10] = -128;
-    assert_eq!(decode_signed(Code::K5, Rate::R1_2, 1, &readings), word(&[0], 10, 10, 0));
+    assert_eq!(decode_signed(Code::K5, Rate::R1_2, 1, &readings), word(&[0], 10));
     readings[9] = -128;
     assert_eq!(decode_signed(Code::K5, Rate::R1_2, 1, &readings), Err(refusal(12, 9)));
     readings[2] = -128;
@@ -78,15 +69,13 @@ fn the_largest_sums_are_whole() {
     let sent = encode(Code::DvbK7, Rate::R1_2, &ones.bits).unwrap();
     let agreeing = sent.iter().filter(|bit| **bit == 1).count() as i32;
     assert_eq!(ones.score, 127 * (2 * agreeing - 32_780));
-    assert_eq!((zeros.heard, zeros.against), (32_780, 0));
-    assert_eq!((ones.heard, ones.against), (32_780, 32_780 - agreeing as u32));
 }
 
 #[test]
 fn info_16384_is_accepted_and_16385_gives_3() {
     for code in CODES {
         for rate in RATES {
-            assert_eq!(decode_signed(code, rate, INFO_LIMIT, &[]), word(&[0; 16_384], 0, 0, 0));
+            assert_eq!(decode_signed(code, rate, INFO_LIMIT, &[]), word(&[0; 16_384], 0));
             assert_eq!(decode_signed(code, rate, INFO_LIMIT + 1, &[]), Err(refusal(3, 0)));
             assert_eq!(decode_signed(code, rate, usize::MAX, &[]), Err(refusal(3, 0)));
         }
@@ -98,7 +87,7 @@ fn info_4096_and_4097_are_accepted() {
     for code in CODES {
         for rate in RATES {
             for info in [4096, 4097] {
-                assert_eq!(decode_signed(code, rate, info, &[]), word(&vec![0; info], 0, 0, 0));
+                assert_eq!(decode_signed(code, rate, info, &[]), word(&vec![0; info], 0));
             }
         }
     }
@@ -111,16 +100,15 @@ fn a_damaged_codeword_comes_back() {
         for code in CODES {
             for rate in RATES {
                 let mut readings: Vec<i8> = encode(code, rate, &info).unwrap().iter().map(clean).collect();
-                let heard = readings.len() as u32;
-                let unharmed = 100 * heard as i32;
+                let length = readings.len() as i32;
                 assert_eq!(
                     decode_signed(code, rate, info.len(), &readings),
-                    word(&info, unharmed, heard, 0)
+                    word(&info, 100 * length)
                 );
                 readings[50] = -readings[50] / 2;
                 assert_eq!(
                     decode_signed(code, rate, info.len(), &readings),
-                    word(&info, unharmed - 150, heard, 1)
+                    word(&info, 100 * length - 150)
                 );
             }
         }

@@ -1,9 +1,9 @@
 -- The two block decoders of readings agree: for every code, rate, info count and list of numbers of which each used one is from
 -- −127 to 127, whatever room there is. Assumes nothing.
 use mathlib.Core.Bool.{Bool, true, false, not}
-use mathlib.Core.List.{List, [], ◌∷◌}
-use mathlib.Core.Path.{◌≡◌, refl, sym, ap, ap₂, ◌∙◌}
-use Prim.Native.Nat.{ℕ, suc, ◌+◌, ◌*◌, ◌^◌, ◌≤◌, ◌<◌}
+use mathlib.Core.List.{List}
+use mathlib.Core.Path.{◌≡◌, refl, sym, ap, ◌∙◌}
+use Prim.Native.Nat.{ℕ, ◌*◌, ◌^◌, ◌≤◌, ◌<◌}
 use native.Mathlib.Decide.{dec_lt}
 use native.Mathlib.Nat.{le_refl, min-le_left}
 use native.Mathlib.Omega.{arith}
@@ -13,33 +13,28 @@ use lib.Ieee.{Float, binary32}
 use lib.IntN.{ℤ, pos, negsuc, nat_abs}
 use lib.ListN.{length, get_or, take, length-map, length-take, get_or-map}
 use lib.Seq.{get_or-take}
-use Rattle.correlation.specs.Against.{against}
 use Rattle.correlation.specs.Decode as any
-use Rattle.correlation.specs.Said.{marks, answered}
-use Rattle.correlation.specs.Whole.{whole, exactly}
-use Rattle.correlation.proofs.Lengths.{length-word}
+use Rattle.correlation.specs.Said.{answered}
+use Rattle.correlation.specs.Whole.{exactly}
 use Rattle.correlation.proofs.Limit.{limit_leaves}
 use Rattle.correlation.proofs.Used.{length-few}
-use Rattle.encoder.specs.Encode.{coded_length_of, encode_word}
+use Rattle.encoder.specs.Encode.{coded_length_of}
 use Rattle.f32s.specs.Single.{finite}
 use Rattle.f32s.specs.Whole.{float_of}
-use Rattle.f32s.proofs.Wholes.{whole_of_int, whole_finite, whole_lt, whole_zero}
+use Rattle.f32s.proofs.Wholes.{whole_of_int, whole_finite}
 use Rattle.forward.specs.Decode.{word, score, filled_rows}
-use Rattle.forward.specs.Sums.{floats, soft}
 use Rattle.readings.specs.Said as readings
-use Rattle.refusal.specs.Answer.{Said, Marks, accepted, refused, refuse_when, said_as}
+use Rattle.refusal.specs.Answer.{Said, accepted, refused, refuse_when, said_as}
 use Rattle.refusal.specs.First.{refuse_at_bad}
 use Rattle.refusal.specs.Lent.{leaves}
 use Rattle.refusal.specs.Limits.{most}
 use Rattle.refusal.specs.Numbers.{unknown_code, unknown_rate, too_many, short_output, short_scratch, bad_reading, bad_signed_byte}
 use Rattle.refusal.proofs.FirstBad.{all_good, none_bad}
-use Rattle.refusal.proofs.Over.{leaves_as}
 use Rattle.signed_readings.specs.Said as signed
 use Rattle.trellis.specs.Choice.{known_code, code_of, known_rate, pattern_of}
 use Rattle.trellis.specs.Codeword.{steps_of}
 use Rattle.trellis.proofs.Chosen.{code_narrow, rate_pattern}
-use Rattle.trellis.proofs.Sent.{length-codeword}
-use Rattle.agreement.specs.Agree.{floats_of, in_floats, InRange, Agree}
+use Rattle.agreement.specs.Agree.{floats_of, InRange, Agree}
 use Rattle.agreement.proofs.Runs.{take-map, Small, words_agree, rows_agree, scores_agree}
 
 -- ---- no used reading is bad
@@ -66,32 +61,23 @@ floats_pass zs rest small =
 -- ---- the refusals that come before
 
 first_two :
-    (a b : Bool) (c : Said (Marks ℤ)) (d : Said (Marks Float)) → d ≡ said_as in_floats c →
-    refuse_when a unknown_code (refuse_when b unknown_rate d) ≡ said_as in_floats (refuse_when a unknown_code (refuse_when b unknown_rate c))
+    (a b : Bool) (c : Said ℤ) (d : Said Float) → d ≡ said_as float_of c →
+    refuse_when a unknown_code (refuse_when b unknown_rate d) ≡ said_as float_of (refuse_when a unknown_code (refuse_when b unknown_rate c))
 first_two true b c d e = refl
 first_two false true c d e = refl
 first_two false false c d e = e
 
 next_two :
-    (a b : Bool) (c : Said (Marks ℤ)) (d : Said (Marks Float)) → d ≡ said_as in_floats c →
+    (a b : Bool) (c : Said ℤ) (d : Said Float) → d ≡ said_as float_of c →
     refuse_when a short_output (refuse_when b short_scratch d)
-    ≡ said_as in_floats (refuse_when a short_output (refuse_when b short_scratch c))
+    ≡ said_as float_of (refuse_when a short_output (refuse_when b short_scratch c))
 next_two true b c d e = refl
 next_two false true c d e = refl
 next_two false false c d e = e
 
--- ---- what goes against a word
-
-against_same :
-    (coded : List ℕ) (zs : List ℤ) → ((i : ℕ) → i < length coded → nat_abs (get_or zs i (pos 0)) ≤ 127) →
-    against floats coded (floats_of zs) ≡ against whole coded zs
-unfolding against
-against_same [] zs small = refl
-against_same (c ∷ coded) [] small = refl
-against_same (c ∷ coded) (z ∷ zs) small =
-    let reading = whole_of_int binary32 z (omega (arith, small 0 (omega arith))) in
-    ap₂ ◌+◌ (rw (whole_lt reading whole_zero, whole_lt whole_zero reading))
-    (against_same coded zs (λ i h. small (suc i) (omega arith)))
+leaves_as : (s : Said ℤ) (new old : List ℕ) → leaves (said_as float_of s) new old ≡ leaves s new old
+leaves_as (accepted z) new old = refl
+leaves_as (refused number place) new old = refl
 
 -- ---- the calls
 
@@ -131,47 +117,20 @@ module _ (code rate info : ℕ) (zs : List ℤ) (range : InRange code rate info 
     same_score =
         scores_agree (code_of code) (code_narrow code).some (pattern_of code rate) (rate_pattern code rate) info zs used_small few
 
-    abbrev decoded : List ℕ
-    decoded = any.word exactly (code_of code) (pattern_of code rate) zs info
-
-    -- the readings beside the codeword are those that are used
-    coded_small : (i : ℕ) → i < length (encode_word code rate decoded) → nat_abs (get_or zs i (pos 0)) ≤ 127
-    coded_small i h =
-        range.each i
-        (omega (
-          arith,
-          h,
-          length-codeword (code_of code) (pattern_of code rate) (rate_pattern code rate) decoded
-              ∙ ap (coded_length_of code rate) (length-word exactly (code_of code) (pattern_of code rate) zs info),
-        ))
-
-    same_against :
-        against floats (encode_word code rate (word (code_of code) (pattern_of code rate) (floats_of zs) info)) (floats_of zs)
-        ≡ against whole (encode_word code rate decoded) zs
-    same_against =
-        ap (λ (w : List ℕ). against floats (encode_word code rate w) (floats_of zs)) same_word
-        ∙ against_same (encode_word code rate decoded) zs coded_small
-
-    same_marks :
-        marks soft code rate info (floats_of zs) (score (code_of code) (pattern_of code rate) (floats_of zs) info)
-        ≡ in_floats (marks exactly code rate info zs (signed.score (code_of code) (pattern_of code rate) zs info))
-    unfolding marks
-    same_marks = rw (same_score, length-map zs float_of, same_against)
-
     examined :
         refuse_at_bad bad_reading finite (take (coded_length_of code rate info) (floats_of zs))
-        (accepted (marks soft code rate info (floats_of zs) (score (code_of code) (pattern_of code rate) (floats_of zs) info)))
-        ≡ said_as in_floats
+        (accepted (score (code_of code) (pattern_of code rate) (floats_of zs) info))
+        ≡ said_as float_of
         (refuse_at_bad bad_signed_byte signed.is_reading used
-        (accepted (marks exactly code rate info zs (signed.score (code_of code) (pattern_of code rate) zs info))))
+        (accepted (signed.score (code_of code) (pattern_of code rate) zs info)))
     examined =
         rw (take-map float_of (coded_length_of code rate info) zs)
-        (floats_pass used _ used_small ∙ ap accepted same_marks ∙ sym (ap (said_as in_floats) (bytes_pass used _ used_small)))
+        (floats_pass used _ used_small ∙ ap accepted same_score ∙ sym (ap (said_as float_of) (bytes_pass used _ used_small)))
 
   answers :
       (room scratch : ℕ) →
       readings.decode_said code rate info (floats_of zs) room scratch
-      ≡ said_as in_floats (signed.decode_said code rate info zs room scratch)
+      ≡ said_as float_of (signed.decode_said code rate info zs room scratch)
   unfolding answered
   answers room scratch =
       elim (dec_lt most info) [
@@ -189,8 +148,8 @@ module _ (code rate info : ℕ) (zs : List ℤ) (range : InRange code rate info 
       leaves (readings.decode_said code rate info (floats_of zs) room scratch) new old
       ≡ leaves (signed.decode_said code rate info zs room scratch) other old
   left room scratch new other old same =
-      ap (λ (s : Said (Marks Float)). leaves s new old) (answers room scratch)
-      ∙ leaves_as in_floats (signed.decode_said code rate info zs room scratch) new old
+      ap (λ (s : Said Float). leaves s new old) (answers room scratch)
+      ∙ leaves_as (signed.decode_said code rate info zs room scratch) new old
       ∙ limit_leaves bad_signed_byte signed.is_reading code rate info room scratch zs _ new other old same
 
   pub decoders_agree : Agree code rate info zs

@@ -16,36 +16,36 @@ use lib.Seq.{take_at, get_or-take}
 use lib.Signed.{mag}
 use Rattle.best_word.proofs.Claimed.{decoded_wins, decoded_counts, decoded_stays}
 use Rattle.correlation.specs.Decode as any
-use Rattle.correlation.specs.Said.{marks}
 use Rattle.correlation.specs.Whole.{exactly}
 use Rattle.correlation.proofs.Answers.{accepted_score, accepted_good}
 use Rattle.correlation.proofs.Lengths.{length-word}
 use Rattle.encoder.specs.Encode.{coded_length_of}
 use Rattle.f32_answers.specs.Answer as f32
-use Rattle.f32_answers.specs.declared.Marked as f32_answer
+use Rattle.f32_answers.specs.declared.Decoded as f32_answer
+use Rattle.f32s.specs.Whole.{float_of}
 use Rattle.readings.specs.Promise as readings
 use Rattle.readings.proofs.viterbi_decode_soft_with.Reads as viterbi_decode_soft_with
-use Rattle.refusal.specs.Answer.{Said, Marks, accepted, said_as}
+use Rattle.refusal.specs.Answer.{Said, accepted, said_as}
 use Rattle.refusal.specs.Lent.{over, leaves, Lent}
 use Rattle.signed_answers.specs.Answer as signed
-use Rattle.signed_answers.specs.declared.Marked as signed_answer
+use Rattle.signed_answers.specs.declared.Decoded as signed_answer
 use Rattle.signed_readings.specs.Promise as signed_readings
 use Rattle.signed_readings.specs.Said.{is_reading, count_of, decode_said}
 use Rattle.signed_readings.proofs.viterbi_decode_signed_with.Reads as viterbi_decode_signed_with
 use Rattle.trellis.specs.Choice.{code_of, pattern_of}
 use Rattle.trellis.proofs.Chosen.{code_narrow, rate_pattern}
-use Rattle.agreement.specs.Agree.{floats_of, in_floats, SignedBytes, InRange, SameOutcome}
+use Rattle.agreement.specs.Agree.{floats_of, SignedBytes, InRange, SameOutcome}
 use Rattle.agreement.specs.Claim.{SignedClaim, ClaimOfSignedCall}
 use Rattle.agreement.proofs.Agreed.{decoders_agree}
 
 -- ---- agreement
 
 promises_agree :
-    (code rate info : ℕ) (zs : List ℤ) → InRange code rate info zs → {r : f32_answer.Marked} {r' : signed_answer.Marked}
+    (code rate info : ℕ) (zs : List ℤ) → InRange code rate info zs → {r : f32_answer.Decoded} {r' : signed_answer.Decoded}
     (given given' : List ℕ) {out out' scratch scratch' : List ℕ} →
-    readings.Decodes (f32.Tells r) code rate info (floats_of zs) (record { given = given; left = out })
+    readings.Decodes (f32.Scores r) code rate info (floats_of zs) (record { given = given; left = out })
     (record { given = given'; left = scratch }) →
-    signed_readings.Decodes (signed.Tells r') code rate info zs (record { given = given; left = out' })
+    signed_readings.Decodes (signed.Scores r') code rate info zs (record { given = given; left = out' })
     (record { given = given'; left = scratch' }) →
     SameOutcome r r' out out' scratch scratch'
 promises_agree code rate info zs range given given' soft whole =
@@ -53,7 +53,7 @@ promises_agree code rate info zs range given given' soft whole =
     let room = length given in
     let work = length given' in
     record {
-      answer = soft.answer ∙ agree.answer room work ∙ sym (ap (said_as in_floats) whole.answer);
+      answer = soft.answer ∙ agree.answer room work ∙ sym (ap (said_as float_of) whole.answer);
       output = soft.output ∙ agree.output room work given ∙ sym whole.output;
       scratch = soft.scratch ∙ agree.survivors room work given' ∙ sym whole.scratch;
     }
@@ -61,7 +61,7 @@ promises_agree code rate info zs range given given' soft whole =
 -- of the contracts: whatever is read as f32s is the same numbers
 pub entries_agree :
     (κs κs' code info rate out scratch : _) (floats : Bor (List Float)) (zs : Bor (List ℤ))
-    (r : f32_answer.Marked) (r' : signed_answer.Marked) (left left' work work' : _) →
+    (r : f32_answer.Decoded) (r' : signed_answer.Decoded) (left left' work work' : _) →
     floats.now ≡ floats_of zs.now → InRange code rate info zs.now →
     viterbi_decode_soft_with.Post κs (code, (floats, (info, (rate, (out, (scratch, tt)))))) r
     (code, (floats, (info, (rate, (left, (work, tt)))))) →
@@ -73,7 +73,7 @@ entries_agree κs κs' code info rate out scratch floats zs r r' left left' work
 
 -- of signed bytes that the decoder of signed bytes accepted, each used one is in range: so the two agree on them
 pub accepted_in-range :
-    (code rate info : ℕ) (zs : List ℤ) → SignedBytes zs → (room scratch : ℕ) (s : Marks ℤ) →
+    (code rate info : ℕ) (zs : List ℤ) → SignedBytes zs → (room scratch : ℕ) (s : ℤ) →
     decode_said code rate info zs room scratch ≡ accepted s → InRange code rate info zs
 accepted_in-range code rate info zs bytes room scratch s accepts =
     record {
@@ -116,18 +116,15 @@ module _ (code rate info : ℕ) (zs : List ℤ) where
   abbrev decoded : List ℕ
   decoded = any.word exactly (code_of code) (pattern_of code rate) zs info
 
-  written :
-      {said : Said (Marks ℤ)} {s : Marks ℤ} → said ≡ accepted s → (new old : List ℕ) → new ≡ leaves said decoded old →
-      take info new ≡ decoded
+  written : {said : Said ℤ} {s : ℤ} → said ≡ accepted s → (new old : List ℕ) → new ≡ leaves said decoded old → take info new ≡ decoded
   unfolding over
   written accepts new old e =
-      ap (take info) (e ∙ ap (λ (a : Said (Marks ℤ)). leaves a decoded old) accepts)
+      ap (take info) (e ∙ ap (λ (a : Said ℤ). leaves a decoded old) accepts)
       ∙ take_at decoded _ info (length-word exactly (code_of code) (pattern_of code rate) zs info)
 
   promise_claimed :
-      {r : signed_answer.Marked} {out scratch : Lent ℕ} → signed_readings.Decodes (signed.Tells r) code rate info zs out scratch →
+      {r : signed_answer.Decoded} {out scratch : Lent ℕ} → signed_readings.Decodes (signed.Scores r) code rate info zs out scratch →
       ClaimOfSignedCall code rate info zs r out.left
-  unfolding marks
   promise_claimed {r} {out} {scratch} promised =
       record {
         accepts = λ s e.
@@ -141,7 +138,7 @@ module _ (code rate info : ℕ) (zs : List ℤ) where
       }
 
 pub signed_with_claimed :
-    (κs code readings info rate out scratch : _) (r : signed_answer.Marked) (left work : _) →
+    (κs code readings info rate out scratch : _) (r : signed_answer.Decoded) (left work : _) →
     viterbi_decode_signed_with.Post κs (code, (readings, (info, (rate, (out, (scratch, tt)))))) r
     (code, (readings, (info, (rate, (left, (work, tt)))))) →
     ClaimOfSignedCall code rate info readings.now r left.now

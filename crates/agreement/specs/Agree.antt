@@ -5,14 +5,14 @@ use Rattle.correlation.specs.Decode as any
 use Rattle.correlation.specs.Whole.{exactly}
 use Rattle.encoder.specs.Encode.{coded_length_of}
 use Rattle.f32_answers.specs.Answer as f32
-use Rattle.f32_answers.specs.declared.Marked as f32_answer
+use Rattle.f32_answers.specs.declared.Decoded as f32_answer
 use Rattle.f32s.specs.Whole.{float_of}
 use Rattle.forward.specs.Sums.{soft}
 use Rattle.readings.specs.Said as readings
-use Rattle.refusal.specs.Answer.{Marks, said_as}
+use Rattle.refusal.specs.Answer.{said_as}
 use Rattle.refusal.specs.Lent.{leaves}
 use Rattle.signed_answers.specs.Answer as signed
-use Rattle.signed_answers.specs.declared.Marked as signed_answer
+use Rattle.signed_answers.specs.declared.Decoded as signed_answer
 use Rattle.signed_readings.specs.Said as signed_readings
 use Rattle.trellis.specs.Choice.{code_of, pattern_of}
 use Rattle.trellis.specs.Codeword.{steps_of}
@@ -20,10 +20,6 @@ use Rattle.trellis.specs.Codeword.{steps_of}
 -- the same numbers as f32s
 abbrev pub floats_of : List ℤ → List Float
 floats_of zs = map float_of zs
-
--- what is told of a word, with the score as the f32 of the whole number
-abbrev pub in_floats : Marks ℤ → Marks Float
-in_floats m = record { score = float_of m.score; heard = m.heard; against = m.against }
 
 -- signed bytes: from −128 to 127
 pub record SignedBytes (zs : List ℤ) : Type 0 where
@@ -35,12 +31,12 @@ pub record InRange (code rate info : ℕ) (zs : List ℤ) : Type 0 where
   pub each : (i : ℕ) → i < coded_length_of code rate info → nat_abs (get_or zs i (pos 0)) ≤ 127
 
 -- The two decoders agree: whatever room there is, they answer the same, the score as the f32 of the whole number, bit
--- for bit, and the same counts, and they leave the same in the output and in scratch.
+-- for bit, and they leave the same in the output and in scratch.
 pub record Agree (code rate info : ℕ) (zs : List ℤ) : Type 0 where
   pub answer :
       (room scratch : ℕ) →
       readings.decode_said code rate info (floats_of zs) room scratch
-      ≡ said_as in_floats (signed_readings.decode_said code rate info zs room scratch)
+      ≡ said_as float_of (signed_readings.decode_said code rate info zs room scratch)
   pub output :
       (room scratch : ℕ) (old : List ℕ) →
       leaves (readings.decode_said code rate info (floats_of zs) room scratch)
@@ -56,7 +52,7 @@ pub record Agree (code rate info : ℕ) (zs : List ℤ) : Type 0 where
 
 -- Of two calls, by what each returned and what it left in the two buffers:
 pub record SameOutcome
-    (r : f32_answer.Marked) (r' : signed_answer.Marked) (out out' work work' : List ℕ) : Type 0 where
-  pub answer : f32.marked_said r ≡ said_as in_floats (signed.marked_said r')
+    (r : f32_answer.Decoded) (r' : signed_answer.Decoded) (out out' work work' : List ℕ) : Type 0 where
+  pub answer : f32.word_said r ≡ said_as float_of (signed.word_said r')
   pub output : out ≡ out'
   pub scratch : work ≡ work'

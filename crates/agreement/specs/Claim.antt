@@ -4,9 +4,9 @@ use Rattle.std.specs.Prelude.{List, ◌≡◌, ℕ, ℤ, take}
 use Rattle.best_word.specs.Claim.{Towards, score_of, Wins}
 use Rattle.correlation.specs.Decode as any
 use Rattle.correlation.specs.Whole.{exactly}
-use Rattle.refusal.specs.Answer.{Marks, accepted}
-use Rattle.signed_answers.specs.Answer.{marked_said}
-use Rattle.signed_answers.specs.declared.Marked.{Marked}
+use Rattle.refusal.specs.Answer.{accepted}
+use Rattle.signed_answers.specs.Answer.{word_said}
+use Rattle.signed_answers.specs.declared.Decoded.{Decoded}
 use Rattle.trellis.specs.declared.ConvCode.{ConvCode}
 use Rattle.trellis.specs.Choice.{code_of, pattern_of}
 use Rattle.trellis.specs.Codeword.{codeword}
@@ -21,8 +21,7 @@ pub record SignedClaim (code : ConvCode) (p : Keep) (info : ℕ) (zs : List ℤ)
   pub stays : (moved : List ℤ) → Towards (codeword code p v) zs moved → any.word exactly code p moved info ≡ v
 
 -- of a call that was accepted, by what it was given, what it returned and what it left in the output: the front of the
--- output is a word, and the answer tells a score, of which the claim holds
-pub record ClaimOfSignedCall (code rate info : ℕ) (zs : List ℤ) (r : Marked) (out : List ℕ) : Type 0 where
+-- output is a word, and the answer a score, of which the claim holds
+pub record ClaimOfSignedCall (code rate info : ℕ) (zs : List ℤ) (r : Decoded) (out : List ℕ) : Type 0 where
   pub accepts :
-      (m : Marks ℤ) → marked_said r ≡ accepted m →
-      SignedClaim (code_of code) (pattern_of code rate) info zs (take info out) m.score
+      (s : ℤ) → word_said r ≡ accepted s → SignedClaim (code_of code) (pattern_of code rate) info zs (take info out) s

@@ -5,19 +5,13 @@ use call_lines::fields::{
 };
 use call_lines::print::{print_answer, print_bytes, print_number};
 use call_lines::shapes::COMPONENTS;
-use f32_answers::{Marked, score_of, word_number};
+use f32_answers::word_number;
 use refusal::count_number;
 use signed_readings::viterbi_decode_signed_with;
 
 fn print_both(answer: u64, out: &[u8], scratch: &[u8]) {
     print_answer(answer, out);
     print_bytes(scratch);
-}
-
-// What is told of a word beside its score.
-fn print_counts(heard: u32, against: u32) {
-    print_number(heard as u64, 1);
-    print_number(against as u64, 1);
 }
 
 // `e CODE RATE INFO ROOM`: the info bytes, and the output's length. Prints the answer and the output.
@@ -54,8 +48,7 @@ pub fn length(line: &[u8]) {
 }
 
 // `b CODE RATE COUNT READINGS ROOM SCRATCH`: the info count, the readings' bytes, and the lengths of the output and
-// of the scratch. Prints the answer, the output and the scratch, and of a word how many places were heard and how many
-// readings go against it.
+// of the scratch. Prints the answer, the output and the scratch.
 pub fn readings(line: &[u8]) {
     let mut bytes = lent_long();
     let n = fill(field(line, 4), &mut bytes);
@@ -69,10 +62,7 @@ pub fn readings(line: &[u8]) {
     let rate = byte(field(line, 2));
     let info = number(field(line, 3)) as usize;
     let answer = readings::viterbi_decode_bytes(code, &bytes[0..n], info, rate, out, scratch);
-    print_both(word_number(score_of(answer)), out, scratch);
-    if let Marked::Word(marks) = answer {
-        print_counts(marks.heard, marks.against);
-    }
+    print_both(word_number(answer), out, scratch);
 }
 
 // `i CODE RATE COUNT READINGS ROOM SCRATCH`: the same of readings that are signed bytes.
@@ -89,11 +79,7 @@ pub fn signed(line: &[u8]) {
     let rate = byte(field(line, 2));
     let info = number(field(line, 3)) as usize;
     let answer = viterbi_decode_signed_with(code, &readings[0..n], info, rate, out, scratch);
-    let scored = signed_answers::score_of(answer);
-    print_both(signed_answers::word_number(scored), out, scratch);
-    if let signed_answers::Marked::Word(marks) = answer {
-        print_counts(marks.heard, marks.against);
-    }
+    print_both(signed_answers::word_number(answer), out, scratch);
 }
 
 // `s COMPONENTS ROOM SCRATCH`: the components' bytes, and the lengths of the output and of the scratch. Prints the

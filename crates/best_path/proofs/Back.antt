@@ -9,7 +9,7 @@ use native.Mathlib.Nat.{suc-mul, div-eq_of_lt}
 use native.Mathlib.Omega.{arith}
 use borrow.Author.Tests.{lt-ltb, le-ltb}
 use lib.Arith.{digits_lt, digits_div}
-use lib.Dec.{ltb, lit<}
+use lib.Dec.{ltb}
 use lib.ListN.{length, get_or, set, take, drop, length-set, length-append}
 use lib.Seq.{drop-cons, drop-set-lt, get_or-set_same, get_or-take, get_or-drop, take_all, take-append-le}
 use Rattle.trellis.specs.declared.ConvCode.{ConvCode}
@@ -20,10 +20,6 @@ use Rattle.best_path.specs.Run.{input_into, traced}
 -- the top bit of a state, as the code finds it
 abbrev pub top_bit : ℕ → ℕ → ℕ
 top_bit half s = cond (ltb s half) 0 1
-
-pub top_bit-below : (half s : ℕ) → top_bit half s < 2
-top_bit-below half s =
-    elim (dec_lt s half) [ yes h ↦ rw (lt-ltb s half h) (lit< tt) | no h ↦ rw (le-ltb s half (omega arith)) (lit< tt) ]
 
 -- What the loop leaves from i on, with the state s and the list out. An invariant says that this is as it was at the start:
 -- it needs no code, as the loop has none.
@@ -61,7 +57,7 @@ module _ (half : ℕ) (rows : List ℕ) (info : ℕ) where
   -- ---- the whole
 
   module _ (code : ConvCode) (steps last room : ℕ) (can : Traceable code half rows steps last info room) where
-    abbrev pub way : ℕ → ℕ → List ℕ
+    abbrev way : ℕ → ℕ → List ℕ
     way = traced wholes code (row_of (2 * half) rows)
 
     low_enters_on_zero : (s : ℕ) → s < half → top_bit half s ≡ input_into wholes code s
@@ -85,7 +81,7 @@ module _ (half : ℕ) (rows : List ℕ) (info : ℕ) where
     unfolding traced
     way_suc i s h = rw (row_survivor i s h, top_bit-input s h)
 
-    pub length-way : (i s : ℕ) → length (way i s) ≡ i
+    length-way : (i s : ℕ) → length (way i s) ≡ i
     unfolding traced
     length-way zero s = refl
     length-way (suc i) s =
@@ -93,7 +89,7 @@ module _ (half : ℕ) (rows : List ℕ) (info : ℕ) where
         ∙ omega (arith, length-way i (get_or (row_of (2 * half) rows i) s 0))
 
     -- all inputs are stored
-    pub left_no_tail : (i s : ℕ) (out : List ℕ) → i ≤ info → i ≤ length out → s < 2 * half → go i s out ≡ way i s ++ drop i out
+    left_no_tail : (i s : ℕ) (out : List ℕ) → i ≤ info → i ≤ length out → s < 2 * half → go i s out ≡ way i s ++ drop i out
     unfolding left traced
     left_no_tail zero s out h g l = refl
     left_no_tail (suc i) s out h g l =
@@ -104,7 +100,7 @@ module _ (half : ℕ) (rows : List ℕ) (info : ℕ) where
         ∙ ap (λ (w : List ℕ). w ++ drop (suc i) out) (sym (way_suc i s l))
 
     -- the tail stores nothing, and its inputs are the last of the way, so they are not among the first `info`
-    pub left_with_tail :
+    left_with_tail :
         (out : List ℕ) → info ≤ length out → (i : ℕ) → info ≤ i → i ≤ steps → (s : ℕ) → s < 2 * half →
         go i s out ≡ take info (way i s) ++ drop info out
     left_with_tail out fits =
@@ -118,7 +114,7 @@ module _ (half : ℕ) (rows : List ℕ) (info : ℕ) where
         (ap (take info) (way_suc i s l)
         ∙ take-append-le info (way i (survivor i s)) (top_bit half s ∷ []) (omega (arith, length-way i (survivor i s))))))
 
-    pub left_way : (out : List ℕ) → info ≤ length out → go steps last out ≡ take info (way steps last) ++ drop info out
+    left_way : (out : List ℕ) → info ≤ length out → go steps last out ≡ take info (way steps last) ++ drop info out
     left_way out fits = left_with_tail out fits steps can.reached (omega arith) last can.state
 
 -- ---- turn by turn

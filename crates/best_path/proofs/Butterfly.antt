@@ -3,17 +3,24 @@
 use mathlib.Core.List.{List}
 use mathlib.Core.Path.{◌≡◌, sym, ap₂, ◌∙◌}
 use Prim.Native.Nat.{ℕ, ◌+◌, ◌-◌, ◌*◌, ◌^◌, ◌<◌}
+use native.Mathlib.Nat.{mod-lt}
 use native.Mathlib.Omega.{arith}
+use lib.Bits.{bit_and}
+use lib.Count.{ones}
+use lib.Dec.{lit<}
 use lib.ListN.{get_or}
 use Rattle.trellis.specs.declared.ConvCode.{ConvCode}
 use Rattle.trellis.specs.Inner.{Ends, Crossed}
 use Rattle.trellis.specs.State.{window, parity_of}
-use Rattle.trellis.proofs.Cells.{parity_bit}
 use Rattle.trellis.proofs.Ends.{turned_by_state0, turned_by_state1, turned_by_input0, turned_by_input1}
 use Rattle.trellis.proofs.States.{states_two_halves}
 use Rattle.best_path.specs.Metric.{Metric}
 use Rattle.best_path.specs.Inner.{LedTo}
 use Rattle.best_path.specs.Step.{Cell, unreached, relaxed, best}
+
+parity_bit : (taps w : ℕ) → parity_of taps w < 2
+unfolding parity_of
+parity_bit taps w = mod-lt (ones (bit_and w taps)) (lit< tt)
 
 -- `of` says what a coded pair brings; p0 and p1 are what the even state sends on the input 0
 module _

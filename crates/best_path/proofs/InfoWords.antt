@@ -3,7 +3,7 @@ use mathlib.Core.List.{List, ◌++◌}
 use mathlib.Core.Logic.{⊎_elim}
 use mathlib.Core.Path.{◌≡◌, refl, sym, ap, subst, ◌∙◌}
 use Prim.Native.Nat.{ℕ, zero, suc, ◌+◌, ◌-◌, ◌*◌, ◌/◌, ◌^◌, ◌≤◌, ◌<◌}
-use native.Mathlib.Nat.{add-suc, sub_self, le_refl, eq-or-lt_of_le, pow-succ'}
+use native.Mathlib.Nat.{add-zero, add-suc, sub-zero, sub_self, le_refl, eq-or-lt_of_le, pow-succ'}
 use native.Mathlib.Omega.{arith}
 use lib.Arith.{lt-one}
 use lib.Dec.{lit<}
@@ -14,18 +14,26 @@ use lib.Seq.{length-take-le, ext_get_or, get_or-append-add, get_or-drop}
 use Rattle.trellis.specs.declared.ConvCode.{ConvCode}
 use Rattle.trellis.specs.State.{next_state, state_after}
 use Rattle.trellis.specs.Codeword.{steps_of}
-use Rattle.trellis.proofs.States.{Inputs}
-use Rattle.trellis.proofs.Windows.{zeros_halve}
+use Rattle.trellis.proofs.States.{Inputs, state_below}
 use Rattle.best_path.specs.Run.{mets_after, survivors, traced}
 use Rattle.best_path.specs.Path.{Leads, Best, Total, none, total, wholes, started_whole}
 use Rattle.best_path.proofs.Words.{append_inputs, take-inputs}
 use Rattle.best_path.proofs.BestPath.{not_reached, best_path}
 
--- ---- only a zero input leads below half of the states
+-- ---- a zero input halves the state, and only a zero one leads below half of the states
 
 module _ (code : ConvCode) (some : 0 < code.width) (w : List ℕ) (are : Inputs w) where
   abbrev at : ℕ → ℕ
   at = state_after code w
+
+  zeros_halve : (t j : ℕ) → j ≤ code.width → ((i : ℕ) → i < j → get_or w (t + i) 0 ≡ 0) → at (t + j) < 2 ^ (code.width - j)
+  unfolding state_after next_state
+  zeros_halve t zero h zeros = rw (add-zero t, sub-zero code.width) (state_below code some w are t)
+  zeros_halve t (suc j) h zeros =
+      let before : at (t + j) < 2 ^ (code.width - j) = zeros_halve t j (omega arith) (λ i k. zeros i (omega arith)) in
+      let twice : 2 ^ (code.width - j) ≡ 2 * 2 ^ (code.width - suc j) =
+      ap (λ (n : ℕ). 2 ^ n) (omega arith) ∙ pow-succ' 2 (code.width - suc j) in
+      rw (add-suc t j, zeros j (omega arith)) (omega arith)
 
   input_zero : (c m : ℕ) → c < 2 → m + c * 2 ^ (code.width - 1) < 2 ^ (code.width - 1) → c ≡ 0
   input_zero zero m h k = refl

@@ -27,8 +27,3 @@ pub record Traceable (code : ConvCode) (half : ℕ) (rows : List ℕ) (steps las
   pub filled : steps * (2 * half) ≤ length rows
   pub states : (k : ℕ) → k < steps * (2 * half) → get_or rows k 0 < 2 * half
   pub state : last < 2 * half
-
--- `before_tail`: a state from which the way back over the first `info` rows alone spells the same word
-pub record BeforeTail (code : ConvCode) (half : ℕ) (rows : List ℕ) (steps last info r : ℕ) : Type 0 where
-  pub state : r < 2 * half
-  pub same : spelled code half rows info r info ≡ spelled code half rows steps last info

@@ -1,7 +1,7 @@
 // What the decoders share: the way back over rows of survivors, which spells the word, for any code. The rest of
 // this crate is definitions and laws over any metric and any code.
 ghost use Rattle.std.specs.Prelude.{cond, ◌++◌, ◌≡◌, ltb, length, drop};
-ghost use Rattle.best_path.specs.Rows.{spelled, Traceable, BeforeTail};
+ghost use Rattle.best_path.specs.Rows.{spelled, Traceable};
 
 use trellis::ConvCode;
 
@@ -34,33 +34,8 @@ pub fn trace(
     }
 }
 
-// The state after the first `info` steps on the way back over the rows of survivors, from the state `last` after the
-// last step: the tail, which spells nothing, is walked over.
-pub fn before_tail(
-    code: ConvCode,
-    half: usize,
-    rows: &[u8],
-    steps: usize,
-    last: usize,
-    info: usize,
-) -> usize
-    requires { Traceable code half rows.now steps last info info }
-    ensures { BeforeTail code half rows.now steps last info result }
-{
-    let states = 2 * half;
-    let mut s = last;
-    let mut i = steps;
-    let mut at = steps * states;
-    while info < i {
-        i -= 1;
-        at -= states;
-        s = rows[at + s] as usize;
-    }
-    s
-}
-
 // The input that leads to a state: its top bit.
-pub fn input_into(half: usize, s: usize) -> u8
+fn input_into(half: usize, s: usize) -> u8
     ensures { result ≡ cond (ltb s half) 0 1 }
 {
     if s < half { 0 } else { 1 }

@@ -9,12 +9,12 @@ use lib.Dec.{ltb}
 use lib.ListN.{length, take, length-take}
 use Rattle.encoder.specs.Encode.{coded_length_of}
 use Rattle.encoder.proofs.Crosses.{crosses_checked, length-below}
-use Rattle.refusal.specs.Answer.{Said, accepted}
+use Rattle.refusal.specs.Answer.{accepted}
 use Rattle.refusal.specs.Limits.{most}
 use Rattle.refusal.specs.Numbers.{short_output, short_scratch}
 use Rattle.refusal.proofs.Doors.{Crosses, small, crosses_unless, crosses_at_bad}
 use Rattle.correlation.specs.Amounts.{survivors_of}
-use Rattle.correlation.specs.Said.{answered, counted_said}
+use Rattle.correlation.specs.Said.{answered}
 
 pub answered_crosses :
     {A S : Type 0} (value : S → ℕ) (bad_number : ℕ) (is_good : A → Bool) (code rate info : ℕ) (readings : List A)
@@ -34,11 +34,3 @@ answered_crosses value bad_number is_good code rate info readings room scratch s
     (λ few. crosses_unless value (ltb room info) short_output _ (omega arith)
     (λ _. crosses_unless value (ltb scratch (survivors_of code info)) short_scratch _ (omega arith)
     (λ _. crosses_at_bad value bad_number is_good used (accepted score) some (few_used few) (small (below few)))))
-
--- and so does what a call says that writes two counts as well
-pub counted_crosses :
-    {S : Type 0} (value : S → ℕ) (code rate info counts : ℕ) {said : Said S} → Crosses value said →
-    Crosses value (counted_said code rate info counts said)
-unfolding counted_said
-counted_crosses value code rate info counts {said} crosses =
-    crosses_checked value code rate info _ (λ few. crosses_unless value (ltb counts 2) short_output said (omega arith) (λ _. crosses))

@@ -13,12 +13,7 @@ pub mod Used
 pub mod Surplus
 pub mod Checks
 pub mod Answers
-pub mod Counts
 pub mod Limit
 pub mod Crosses
-pub mod Marks
-pub mod Against
-pub mod Tally
-pub mod Counting
 pub mod Sizes
 pub mod Unique

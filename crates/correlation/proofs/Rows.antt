@@ -1,26 +1,23 @@
 -- The way back over the rows that all steps leave: it can be walked from any state, and from state 0 it spells the word.
 -- Assumes nothing.
-use mathlib.Core.Bool.{Bool, true, false}
 use mathlib.Core.List.{List, ◌++◌}
 use mathlib.Core.Path.{◌≡◌, refl, ap, ◌∙◌}
-use Prim.Native.Nat.{ℕ, ◌-◌, ◌*◌, ◌≤◌, ◌<◌}
+use Prim.Native.Nat.{ℕ, ◌-◌, ◌*◌, ◌<◌}
 use native.Mathlib.Omega.{arith}
 use lib.ListN.{length, take, drop}
 use lib.Pow.{pow_pos}
-use Rattle.best_path.specs.Rows.{spelled, Traceable, BeforeTail}
+use Rattle.best_path.specs.Rows.{spelled, Traceable}
 use Rattle.best_path.specs.Run.{traced}
 use Rattle.best_path.proofs.Rows.{StateRows, left_traceable, left_way_back}
-use Rattle.best_path.proofs.Tail.{tail_traceable}
 use Rattle.trellis.specs.declared.ConvCode.{ConvCode}
 use Rattle.trellis.specs.declared.KeepPattern.{KeepPattern}
 use Rattle.trellis.specs.Choice.{keep_of}
-use Rattle.trellis.specs.Codeword.{steps_of, codeword}
+use Rattle.trellis.specs.Codeword.{steps_of}
 use Rattle.trellis.specs.Keep.{Keep}
 use Rattle.trellis.specs.Inner.{Halved}
-use Rattle.correlation.specs.Against.{against}
 use Rattle.correlation.specs.Arithmetic.{Kind}
 use Rattle.correlation.specs.Decode.{froms, word, score}
-use Rattle.correlation.specs.Inner.{Runnable, Runs, Countable, Counts, Decodable, Finds, Counted}
+use Rattle.correlation.specs.Inner.{Runnable, Runs, Decodable, Finds}
 use Rattle.correlation.proofs.Steps.{filled_by}
 
 -- there is a state 0, and a state 1
@@ -57,10 +54,10 @@ module _
   abbrev rows : StateRows (2 * half) (froms kind code p readings)
   rows = filled_by shape kind p readings
 
-  pub way_walkable : {last : ℕ} (room : ℕ) → last < 2 * half → info ≤ room → Traceable code half left steps last info room
-  way_walkable {last} room state fits =
-      left_traceable rows code half steps left _ refl shape.halved shape.few ran.survivors last info room
-      state (omega arith) fits
+  pub way_walkable : {last : ℕ} → last < 2 * half → Traceable code half left steps last info (length out)
+  way_walkable {last} state =
+      left_traceable rows code half steps left _ refl shape.halved shape.few ran.survivors last info (length out)
+      state (omega arith) ready.room
 
   -- from state 0 the rows spell what the definition's survivors do
   spells :
@@ -74,36 +71,6 @@ module _
   word_spelled : spelled code half left steps 0 info ≡ word kind code p readings info
   unfolding word
   word_spelled = spells _ (omega arith)
-
-  -- so it does from the state before the tail, where the readings against it can be counted
-  module _ {last : ℕ} (tail : BeforeTail code half left steps 0 info last) where
-    pub way_countable : Countable code half keep left last info out
-    way_countable =
-        record {
-          shape = shape;
-          pattern = ready.pattern;
-          few = ready.few;
-          way = tail_traceable (way_walkable (length out) (omega (arith, some_states shape)) ready.room) tail;
-        }
-
-    pub way_counted :
-        {counting : Bool} {n : ℕ} {new : List ℕ} → counting ≡ true →
-        Counts kind.on code p half left last info readings n (record { given = out; left = new }) →
-        Counted counting kind code p info readings n
-    way_counted counts e =
-        record {
-          count =
-              rw counts
-              (e.count ∙ ap (λ (w : List ℕ). against kind.on (codeword code p w) readings) (tail.same ∙ word_spelled));
-        }
-
-    pub way_writes :
-        {n : ℕ} {new : List ℕ} → Counts kind.on code p half left last info readings n (record { given = out; left = new }) →
-        new ≡ spelled code half left steps 0 info ++ drop info out
-    way_writes e = e.output ∙ ap (λ (w : List ℕ). w ++ drop info out) tail.same
-
-  pub way_uncounted : {counting : Bool} → counting ≡ false → Counted counting kind code p info readings 0
-  way_uncounted e = record { count = rw e }
 
   -- so where the way back from state 0 is written to the output, word, score and survivors are found
   pub way_finds :

@@ -1,5 +1,4 @@
 -- What the code and rate numbers select is what a decoding asks. Assumes nothing.
-use mathlib.Core.Bool.{Bool}
 use mathlib.Core.List.{List}
 use mathlib.Core.Logic.{inl, inr, ⊎_elim}
 use mathlib.Core.Path.{◌≡◌, ap, ap₂, ◌∙◌}
@@ -14,16 +13,15 @@ use Rattle.refusal.specs.Lent.{Lent}
 use Rattle.refusal.specs.Limits.{most}
 use Rattle.trellis.specs.declared.ConvCode.{ConvCode}
 use Rattle.trellis.specs.declared.Selected.{Selected}
-use Rattle.trellis.specs.Choice.{k7, code_of, pattern_of, keep_of}
+use Rattle.trellis.specs.Choice.{k7, code_of, keep_of}
 use Rattle.trellis.specs.Codeword.{steps_of}
 use Rattle.trellis.specs.Keep.{coded_length}
-use Rattle.trellis.specs.Inner.{Chooses, Halved, Measurable}
+use Rattle.trellis.specs.Inner.{Chooses, Halved}
 use Rattle.trellis.proofs.Chosen.{code_width, code_sized, code_narrow, code_ends}
 use Rattle.trellis.proofs.States.{states_two_halves}
 use Rattle.correlation.specs.Arithmetic.{Kind}
-use Rattle.correlation.specs.Amounts.{survivors_of, most_readings}
-use Rattle.correlation.specs.Inner.{Compiled, Decodable, Finds, FindsAt, Counted, UsedOf}
-use Rattle.correlation.proofs.Used.{length-few}
+use Rattle.correlation.specs.Amounts.{survivors_of}
+use Rattle.correlation.specs.Inner.{Compiled, Decodable, Finds, FindsAt, Usable, UsedOf}
 
 pub code_few : (n : ℕ) → 2 ^ ((code_of n).width - 1) ≤ 32
 code_few n = pow_mono {j = 5} (omega (arith, code_width n))
@@ -53,22 +51,13 @@ module _ {code rate : ℕ} {chosen : Selected} (is : Chooses code rate chosen) w
   pub steps_few : (info : ℕ) → info ≤ most → steps_of chosen.code info ≤ steps_of k7 most
   steps_few info h = omega (arith, h, ap (λ (c : ConvCode). c.width) is.taps, code_width code)
 
-  pub chosen_measurable : (info : ℕ) → info ≤ most → Measurable chosen.keep (steps_of chosen.code info)
-  chosen_measurable info h = record { rows = chosen_rows is; few = omega (arith, steps_few info h) }
+  pub chosen_usable : (info : ℕ) → info ≤ most → Usable chosen.keep (steps_of chosen.code info)
+  chosen_usable info h = record { pattern = chosen_rows is; few = steps_few info h }
 
-  module _ (info : ℕ) {coded : ℕ} (e : coded ≡ coded_length (keep_of chosen.keep) (steps_of chosen.code info)) where
-    pub coded_few : info ≤ most → coded ≤ most_readings
-    coded_few h = omega (arith, e, length-chosen is info, length-few code rate info h)
-
-    pub used_chosen : {count used : ℕ} → UsedOf coded count used → UsedOf (coded_length_of code rate info) count used
-    used_chosen uses = rw (e, length-chosen is info) at uses
-
-  -- what is counted is what the numbers select
-  pub counted_selected :
-      {A M : Type 0} {counting : Bool} {kind : Kind A M} {info : ℕ} {readings : List A} {r : ℕ} →
-      Counted counting kind chosen.code (keep_of chosen.keep) info readings r →
-      Counted counting kind (code_of code) (pattern_of code rate) info readings r
-  counted_selected counted = rw (is.taps, keep_chosen is) at counted
+  pub used_chosen :
+      (info : ℕ) {count used : ℕ} → UsedOf (coded_length (keep_of chosen.keep) (steps_of chosen.code info)) count used →
+      UsedOf (coded_length_of code rate info) count used
+  used_chosen info uses = rw (length-chosen is info) at uses
 
   module _ {half : ℕ} (g : half ≡ 2 ^ (chosen.code.width - 1)) where
     of_half : half ≡ 2 ^ ((code_of code).width - 1)

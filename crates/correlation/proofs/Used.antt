@@ -9,26 +9,33 @@ use lib.Seq.{get_or-take, take_all, length-take-le}
 use Rattle.encoder.specs.Encode.{coded_length_of}
 use Rattle.encoder.proofs.Selected.{length-chosen}
 use Rattle.refusal.specs.Limits.{most}
+use Rattle.trellis.specs.declared.KeepPattern.{KeepPattern}
 use Rattle.trellis.specs.declared.Selected.{Selected}
 use Rattle.trellis.specs.Choice.{code_of, pattern_of, keep_of}
 use Rattle.trellis.specs.Codeword.{steps_of}
 use Rattle.trellis.specs.Inner.{Chooses}
+use Rattle.trellis.specs.Keep.{coded_length}
 use Rattle.trellis.proofs.Chosen.{code_width, rate_pattern}
+use Rattle.trellis.proofs.Columns.{rows_pattern}
 use Rattle.trellis.proofs.Kept.{coded_le}
 use Rattle.correlation.specs.Amounts.{most_readings}
-use Rattle.correlation.specs.Inner.{UsedOf, UsedEach}
+use Rattle.correlation.specs.Inner.{Usable, UsedOf, UsedEach}
 
 pub length-few : (code rate info : ℕ) → info ≤ most → coded_length_of code rate info ≤ most_readings
 length-few code rate info h =
     omega (arith, coded_le (pattern_of code rate) (rate_pattern code rate) (steps_of (code_of code) info), code_width code)
 
-pub uses_all : (need count : ℕ) → need ≤ most_readings → count < need → UsedOf need count count
-uses_all need count few h =
-    record { short = λ g. refl; enough = λ g. absurd (omega (arith, h, g)); few = omega (arith, h, few) }
+pub usable_few : {keep : KeepPattern} {steps : ℕ} → Usable keep steps → coded_length (keep_of keep) steps ≤ most_readings
+usable_few {keep} {steps} usable =
+    omega (arith, coded_le (keep_of keep) (rows_pattern keep usable.pattern) steps, usable.few)
 
-pub uses_needed : (need count : ℕ) → need ≤ most_readings → need ≤ count → UsedOf need count need
-uses_needed need count few h =
-    record { short = λ g. absurd (omega (arith, h, g)); enough = λ g. refl; few = omega (arith, few) }
+pub uses_all : (need count coded : ℕ) → coded ≡ need → need ≤ most_readings → count < coded → UsedOf need count count
+uses_all need count coded e few h =
+    record { short = λ g. refl; enough = λ g. absurd (omega (arith, e, h, g)); few = omega (arith, e, h, few) }
+
+pub uses_needed : (need count coded : ℕ) → coded ≡ need → need ≤ most_readings → coded ≤ count → UsedOf need count coded
+uses_needed need count coded e few h =
+    record { short = λ g. absurd (omega (arith, e, h, g)); enough = λ g. e; few = omega (arith, e, few) }
 
 pub used_within : {need count used : ℕ} → UsedOf need count used → used ≤ count
 used_within {need} {count} is =

@@ -1,18 +1,15 @@
 -- What the inner functions of a decoder of readings ask and ensure, for any kind of decoder. Definitions only.
-use Rattle.std.specs.Prelude.{Bool, cond, List, ◌++◌, ◌⊎◌, ◌≡◌, ℕ, ◌-◌, ◌*◌, ◌^◌, ◌≤◌, ◌<◌, length, get_or, drop}
-use Rattle.best_path.specs.Rows.{spelled, Traceable}
+use Rattle.std.specs.Prelude.{List, ◌++◌, ◌⊎◌, ◌≡◌, ℕ, ◌-◌, ◌*◌, ◌^◌, ◌≤◌, ◌<◌, length, get_or, drop}
 use Rattle.encoder.specs.Encode.{coded_length_of}
 use Rattle.refusal.specs.Lent.{Lent}
 use Rattle.refusal.specs.Limits.{most}
 use Rattle.trellis.specs.declared.ConvCode.{ConvCode}
 use Rattle.trellis.specs.declared.KeepPattern.{KeepPattern}
-use Rattle.trellis.specs.Choice.{code_of, pattern_of, keep_of}
-use Rattle.trellis.specs.Codeword.{steps_of, codeword}
+use Rattle.trellis.specs.Choice.{k7, code_of, pattern_of}
+use Rattle.trellis.specs.Codeword.{steps_of}
 use Rattle.trellis.specs.Keep.{Keep, coded_length}
 use Rattle.trellis.specs.Inner.{Chooses, Rows, Halved, Crossed}
-use Rattle.trellis.specs.Places.{Place}
-use Rattle.correlation.specs.Against.{against, opposes_at}
-use Rattle.correlation.specs.Arithmetic.{Arithmetic, Kind}
+use Rattle.correlation.specs.Arithmetic.{Kind}
 use Rattle.correlation.specs.Gain.{new_mets, new_froms}
 use Rattle.correlation.specs.Decode.{mets, word, score, filled_rows}
 use Rattle.correlation.specs.Said.{call_refusal}
@@ -59,29 +56,6 @@ pub record Runs
   pub last : r ≡ get_or (mets kind code p readings steps) 0 kind.op.mark
   pub survivors : rows.left ≡ filled_rows kind code p readings steps ++ drop (steps * states) rows.given
 
--- ---- readings against a word
-
--- `opposed_at`: 1 where the reading of a place goes against its coded bit, else 0
-pub record OpposedAt {A : Type 0} (on : Arithmetic A) (bit : ℕ) (place : Place A) (r : ℕ) : Type 0 where
-  pub count : r ≡ opposes_at on bit place
-  pub few : r ≤ 1
-
--- `trace_against`: a code and a keep pattern as the code holds them, and survivors whose way back from the state `last`
--- spells a word that has room
-pub record Countable
-    (code : ConvCode) (half : ℕ) (keep : KeepPattern) (rows : List ℕ) (last info : ℕ) (out : List ℕ) : Type 0 where
-  pub shape : Halved code half
-  pub pattern : Rows keep
-  pub few : info ≤ most
-  pub way : Traceable code half rows info last info (length out)
-
--- `trace_against`: the word over the front of `out`, and how many readings go against its codeword
-pub record Counts
-    {A : Type 0} (on : Arithmetic A) (code : ConvCode) (p : Keep) (half : ℕ) (rows : List ℕ) (last info : ℕ)
-    (readings : List A) (r : ℕ) (out : Lent ℕ) : Type 0 where
-  pub output : out.left ≡ spelled code half rows info last info ++ drop info out.given
-  pub count : r ≡ against on (codeword code p (spelled code half rows info last info)) readings
-
 -- ---- the decoding
 
 -- `decode`: a code and a keep pattern as the code holds them, and room for the word and the survivors
@@ -103,12 +77,6 @@ pub record Finds
       scratch.left
       ≡ filled_rows kind code p readings (steps_of code info) ++ drop (steps_of code info * states) scratch.given
 
--- where it counts them, the number of the readings against the word's codeword; else 0
-pub record Counted
-    {A M : Type 0} (counting : Bool) (kind : Kind A M) (code : ConvCode) (p : Keep) (info : ℕ) (readings : List A)
-    (r : ℕ) : Type 0 where
-  pub count : r ≡ cond counting (against kind.on (codeword code p (word kind code p readings info)) readings) 0
-
 -- the same for what a code number and a rate number select
 abbrev pub FindsAt :
     {A M : Type 0} → Kind A M → (code rate info : ℕ) → List A → M → (out scratch : Lent ℕ) → Type 0
@@ -116,6 +84,11 @@ FindsAt kind code rate info readings r out scratch =
     Finds kind (code_of code) (pattern_of code rate) (2 ^ (code_of code).width) info readings r out scratch
 
 -- ---- which readings are used
+
+-- `used_of`: a keep pattern as the code holds it, and steps that an info count within the limit has
+pub record Usable (keep : KeepPattern) (steps : ℕ) : Type 0 where
+  pub pattern : Rows keep
+  pub few : steps ≤ steps_of k7 most
 
 -- `used_of`: as many as are needed, where there are so many; few enough for a place
 pub record UsedOf (need count used : ℕ) : Type 0 where
@@ -129,11 +102,10 @@ pub record UsedEach {A : Type 0} (Asked : A → Type 0) (d : A) (p : Keep) (step
 
 -- ---- before the readings are looked at
 
--- `prepare`: the number of the refusal that a call earns, what its numbers select, and where it earns none, the coded
--- length and how many of its `count` readings are used
+-- `prepare`: the number of the refusal that a call earns, what its numbers select, and where it earns none, how many of
+-- its `count` readings are used
 pub record Prepares (code rate info count room scratch : ℕ) (r : Prepared) : Type 0 where
   pub decided : r.number ≡ call_refusal code rate info room scratch
   pub chosen : Chooses code rate r.chosen
   pub halved : r.half ≡ 2 ^ (r.chosen.code.width - 1)
-  pub coded : r.number ≡ 0 → r.coded ≡ coded_length (keep_of r.chosen.keep) (steps_of r.chosen.code info)
   pub used : r.number ≡ 0 → UsedOf (coded_length_of code rate info) count r.used

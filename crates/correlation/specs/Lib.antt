@@ -1,12 +1,11 @@
 -- Arithmetic: the numbers that readings are, and a kind of decoder. Gain: what a branch brings, and one step. Decode:
--- word, score and survivors. Amounts: how many readings and survivors. Against: readings that go against a word. Said:
--- what a decoder answers, for every input. Promise: what an entry promises. Inner: what the inner functions of a
--- decoder ask and ensure. Whole: the decoder in whole numbers.
+-- word, score and survivors. Amounts: how many readings and survivors. Said: what a decoder answers, for every input.
+-- Promise: what an entry promises. Inner: what the inner functions of a decoder ask and ensure. Whole: the decoder in
+-- whole numbers.
 pub mod Arithmetic
 pub mod Gain
 pub mod Decode
 pub mod Amounts
-pub mod Against
 pub mod Said
 pub mod Promise
 pub mod Inner

@@ -1,13 +1,12 @@
 -- What an entry that decodes readings promises, for any kind of decoder. `Answers` is how the caller reads the answer,
--- `out`, `scratch` and `counts` the lent buffers. Definitions only.
-use Rattle.std.specs.Prelude.{List, ◌≡◌, ℕ, length}
-use Rattle.refusal.specs.Answer.{Said, Marks}
-use Rattle.refusal.specs.Lent.{Lent, leaves_counts, WritesBoth}
+-- `out` and `scratch` the lent buffers. Definitions only.
+use Rattle.std.specs.Prelude.{List, ℕ}
+use Rattle.refusal.specs.Answer.{Said}
+use Rattle.refusal.specs.Lent.{Lent, WritesBoth}
 use Rattle.trellis.specs.Choice.{code_of, pattern_of}
 use Rattle.trellis.specs.Codeword.{steps_of}
 use Rattle.correlation.specs.Arithmetic.{Kind}
 use Rattle.correlation.specs.Decode.{word, filled_rows}
-use Rattle.correlation.specs.Said.{counted_said}
 
 -- the word goes to `out`, the survivor numbers of all steps to `scratch`
 abbrev pub Decodes :
@@ -16,12 +15,3 @@ abbrev pub Decodes :
 Decodes kind Answers said code rate info readings out scratch =
     WritesBoth Answers said (word kind (code_of code) (pattern_of code rate) readings info) out
     (filled_rows kind (code_of code) (pattern_of code rate) readings (steps_of (code_of code) info)) scratch
-
--- the same of a call that also writes the two counts of what it tells to `counts`
-pub record DecodesCounted
-    {A M S : Type 0} (kind : Kind A M) (Answers : Said (Marks S) → Type 0) (said : Said (Marks S)) (code rate info : ℕ)
-    (readings : List A) (out scratch counts : Lent ℕ) : Type 0 where
-  pub decodes :
-      Decodes kind Answers (counted_said code rate info (length counts.given) said)
-      code rate info readings out scratch
-  pub told : counts.left ≡ leaves_counts (counted_said code rate info (length counts.given) said) counts.given

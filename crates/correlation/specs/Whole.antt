@@ -1,6 +1,5 @@
 -- The decoder in whole numbers, where nothing is rounded. Definitions only.
 use Rattle.std.specs.Prelude.{ℤ, pos, neg_ℤ, ◌+ℤ◌, ◌-ℤ◌}
-use Rattle.std.specs.Int.Signed.{lt_z}
 use Rattle.best_path.specs.Path.{Total, total, wholes}
 use Rattle.correlation.specs.Arithmetic.{Arithmetic, Kind}
 
@@ -11,7 +10,6 @@ whole =
       plus = λ (a b : ℤ). a +ℤ b;
       minus = λ (a b : ℤ). a -ℤ b;
       negative = λ (a : ℤ). neg_ℤ a;
-      less = λ (a b : ℤ). lt_z a b;
     }
 
 -- The larger total is better, and state 0 starts at 0; a state that is not reached has none.

@@ -1,13 +1,13 @@
 // What the decoders of readings share, over any arithmetic and metric: what a branch brings, the metrics, the
 // survivors, the word and the score, what is answered, and the laws of all that. The code here is what is the same for
 // every kind of reading; the decoders themselves have crates of their own.
-ghost use Rattle.std.specs.Prelude.{cond, ◌≡◌, ◌+◌, ◌-◌, ◌^◌, ◌≤◌, ◌<◌, eqb};
+ghost use Rattle.std.specs.Prelude.{cond, ◌≡◌, ◌+◌, ◌-◌, ◌^◌, ◌<◌, eqb};
+ghost use Rattle.trellis.specs.Choice.{keep_of};
 ghost use Rattle.trellis.specs.Inner.{Narrow};
-ghost use Rattle.correlation.specs.Amounts.{most_readings};
-ghost use Rattle.correlation.specs.Inner.{UsedOf, Prepares};
-ghost use Rattle.correlation.specs.Said.{counts_refusal};
+ghost use Rattle.trellis.specs.Keep.{coded_length};
+ghost use Rattle.correlation.specs.Inner.{Usable, UsedOf, Prepares};
 
-use trellis::{ConvCode, Selected};
+use trellis::{ConvCode, KeepPattern, Selected};
 
 // Half of the code's states.
 fn half_of(code: ConvCode) -> usize
@@ -18,11 +18,12 @@ fn half_of(code: ConvCode) -> usize
     one << (code.width - 1)
 }
 
-// How many readings are used, of those that there are, for so many coded bits.
-fn used_of(coded: usize, count: usize) -> usize
-    requires { coded ≤ most_readings }
-    ensures { UsedOf coded count result }
+// How many readings are used, of those that there are.
+fn used_of(keep: KeepPattern, steps: usize, count: usize) -> usize
+    requires { Usable keep steps }
+    ensures { UsedOf (coded_length (keep_of keep) steps) count result }
 {
+    let coded = trellis::coded_len(keep, steps);
     if count < coded { count } else { coded }
 }
 
@@ -34,22 +35,13 @@ pub fn after(column: u8, at: usize) -> usize
     if column == 1 { at + 1 } else { at }
 }
 
-// The number of the reading before a place of that column ends, from that of the reading behind it: going back.
-pub fn before(column: u8, behind: usize) -> usize
-    requires { cond (eqb column 1) 1 0 ≤ behind }
-    ensures { behind ≡ result + cond (eqb column 1) 1 0 }
-{
-    if column == 1 { behind - 1 } else { behind }
-}
-
 // What a call comes to before its readings are looked at: the number of a refusal, or 0; the coding that it selects,
-// half of the states, the coded length, and how many of the readings are used.
+// half of the states, and how many of the readings are used.
 #[derive(Drop)]
 pub struct Prepared {
     pub number: u8,
     pub chosen: Selected,
     pub half: usize,
-    pub coded: usize,
     pub used: usize,
 }
 
@@ -72,7 +64,6 @@ pub fn prepare(
             number,
             chosen,
             half,
-            coded: 0,
             used: 0,
         };
     }
@@ -81,7 +72,6 @@ pub fn prepare(
             number: refusal::SHORT_OUTPUT,
             chosen,
             half,
-            coded: 0,
             used: 0,
         };
     }
@@ -91,32 +81,14 @@ pub fn prepare(
             number: refusal::SHORT_SCRATCH,
             chosen,
             half,
-            coded: 0,
             used: 0,
         };
     }
-    let coded = trellis::coded_len(chosen.keep, steps);
-    let used = used_of(coded, count);
+    let used = used_of(chosen.keep, steps, count);
     Prepared {
         number: 0,
         chosen,
         half,
-        coded,
         used,
     }
-}
-
-// The refusal of a call that has two counts to write and is lent room for so many: none, 0, where that is enough; else
-// 4, unless it earns one of 1 to 3.
-pub fn refused_counts(code: u8, rate: u8, info: usize, counts: usize) -> u8
-    ensures { result ≡ counts_refusal code rate info counts }
-{
-    if 2 <= counts {
-        return 0;
-    }
-    let choice = encoder::refused_choice(code, rate, info, refusal::MOST);
-    if choice != 0 {
-        return choice;
-    }
-    refusal::SHORT_OUTPUT
 }

@@ -6,17 +6,16 @@ use native.Mathlib.Omega.{arith}
 use borrow.Author.Tests.{ltb-false}
 use lib.Dec.{ltb}
 use lib.Ieee.{Float, binary32, to_bits}
-use Rattle.correlation.specs.Said.{marks, counted_said}
-use Rattle.correlation.proofs.Crosses.{answered_crosses, counted_crosses}
+use Rattle.correlation.proofs.Crosses.{answered_crosses}
 use Rattle.encoder.specs.Encode.{coded_length_of, roomed, length_said, encode_said, plain_said}
 use Rattle.encoder.proofs.Crosses.{crosses_checked, length-below}
 use Rattle.f32_answers.specs.Answer.{score_bits}
 use Rattle.forward.proofs.Metrics.{score_below}
 use Rattle.readings.specs.Said.{decode_said}
-use Rattle.refusal.specs.Answer.{Marks, accepted, score_said, door_number, door_read}
+use Rattle.refusal.specs.Answer.{accepted, door_number, door_read}
 use Rattle.refusal.specs.Limits.{most}
 use Rattle.refusal.specs.Numbers.{too_many, short_output}
-use Rattle.refusal.proofs.Doors.{Crosses, small, count_tells, value_tells_of, crosses_unless}
+use Rattle.refusal.proofs.Doors.{Crosses, small, count_tells, value_tells, crosses_unless}
 use Rattle.trellis.specs.Choice.{code_of, pattern_of}
 use Rattle.trellis.proofs.Chosen.{code_narrow}
 
@@ -44,25 +43,11 @@ pub length-tells : (code rate count : ℕ) → door_read (door_number (length_sa
 unfolding length_said
 length-tells code rate count = count_tells _ (crosses_checked itself code rate count _ (λ few. small (length-below code rate count few)))
 
--- the score's bits, of all that is told
-abbrev bits : Marks Float → ℕ
-bits m = to_bits binary32 m.score
-
-module _ (code rate info : ℕ) (readings : List Float) (room scratch : ℕ) where
-  decode_crosses : Crosses bits (decode_said code rate info readings room scratch)
-  unfolding marks
-  decode_crosses =
-      answered_crosses bits _ _ code rate info readings room scratch _ (omega arith)
-      (λ few. score_below (code_of code) (code_narrow code).some (pattern_of code rate) readings info)
-
-  pub decode_tells :
-      door_read (door_number (score_bits (score_said (decode_said code rate info readings room scratch))))
-      ≡ score_bits (score_said (decode_said code rate info readings room scratch))
-  decode_tells = value_tells_of (to_bits binary32) (λ (m : Marks Float). m.score) _ decode_crosses
-
-  pub decode_counted_tells :
-      (counts : ℕ) →
-      door_read (door_number (score_bits (score_said (counted_said code rate info counts (decode_said code rate info readings room scratch)))))
-      ≡ score_bits (score_said (counted_said code rate info counts (decode_said code rate info readings room scratch)))
-  decode_counted_tells counts =
-      value_tells_of (to_bits binary32) (λ (m : Marks Float). m.score) _ (counted_crosses bits code rate info counts decode_crosses)
+pub decode_tells :
+    (code rate info : ℕ) (readings : List Float) (room scratch : ℕ) →
+    door_read (door_number (score_bits (decode_said code rate info readings room scratch)))
+    ≡ score_bits (decode_said code rate info readings room scratch)
+decode_tells code rate info readings room scratch =
+    value_tells (to_bits binary32) _
+    (answered_crosses (to_bits binary32) _ _ code rate info readings room scratch _ (omega arith)
+    (λ few. score_below (code_of code) (code_narrow code).some (pattern_of code rate) readings info))

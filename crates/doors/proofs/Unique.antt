@@ -1,18 +1,15 @@
 -- Of each door, any two outcomes that its contract allows are equal. `Post` is the contract as the prover reads it: of what
 -- the call is given, what it returns, and what it leaves in each argument. Assumes nothing.
 use Prim.Native.Nat.{ℕ}
-use Rattle.f32_answers.specs.Answer.{ScoreNumbersOf}
-use Rattle.f32_answers.proofs.Told.{score_numbers_of_tell}
-use Rattle.correlation.proofs.Unique.{counted_once}
-use Rattle.forward.specs.Sums.{soft}
+use Rattle.f32_answers.specs.Answer.{ScoreNumbers}
+use Rattle.f32_answers.proofs.Told.{score_numbers_tell}
 use Rattle.refusal.specs.Answer.{Numbers}
-use Rattle.refusal.proofs.Determined.{Once, OnceLeft, OnceBoth, OnceThree, writes_once, both_once}
+use Rattle.refusal.proofs.Determined.{Once, OnceLeft, OnceBoth, writes_once, both_once}
 use Rattle.refusal.proofs.Told.{numbers_tell}
 use Rattle.doors.proofs.relay_conv_encode.Reads as relay_conv_encode
 use Rattle.doors.proofs.relay_encode.Reads as relay_encode
 use Rattle.doors.proofs.relay_coded_len.Reads as relay_coded_len
 use Rattle.doors.proofs.relay_decode.Reads as relay_decode
-use Rattle.doors.proofs.relay_decode_counted.Reads as relay_decode_counted
 
 pub relay_conv_encode-once :
     (κs bits out : _) → OnceLeft (λ r left. relay_conv_encode.Post κs (bits, (out, tt)) r (bits, (left, tt)))
@@ -32,12 +29,4 @@ pub relay_decode-once :
     OnceBoth (λ r left work.
     relay_decode.Post κs (code, (rate, (info, (readings, (out, (scratch, tt)))))) r
     (code, (rate, (info, (readings, (left, (work, tt)))))))
-relay_decode-once κs code rate info readings out scratch = both_once ScoreNumbersOf score_numbers_of_tell _ _ _ _ _
-
-pub relay_decode_counted-once :
-    (κs code rate info readings out scratch counts : _) →
-    OnceThree (λ r left work told.
-    relay_decode_counted.Post κs (code, (rate, (info, (readings, (out, (scratch, (counts, tt))))))) r
-    (code, (rate, (info, (readings, (left, (work, (told, tt))))))))
-relay_decode_counted-once κs code rate info readings out scratch counts =
-    counted_once soft ScoreNumbersOf score_numbers_of_tell _ _ _ _ _ _ _ _
+relay_decode-once κs code rate info readings out scratch = both_once ScoreNumbers score_numbers_tell _ _ _ _ _

@@ -1,14 +1,13 @@
 // The functions for a host in Rust or C, on numbers and byte slices. Each returns one u64: the count
 // or the score's 32 bits, or on a refusal its number times 2^32 plus the place.
-ghost use Rattle.f32_answers.specs.Answer.{ScoreNumbersOf};
+ghost use Rattle.f32_answers.specs.Answer.{ScoreNumbers};
 ghost use Rattle.refusal.specs.Answer.{Numbers};
 ghost use Rattle.refusal.specs.Lent.{lent};
 ghost use Rattle.encoder.specs.Promise.{Measures, Encodes, EncodesPlain};
-ghost use Rattle.readings.specs.Promise.{DecodesBytes, DecodesCounted};
+ghost use Rattle.readings.specs.Promise.{DecodesBytes};
 
-use f32_answers::{marked_number, word_number};
-use readings::{viterbi_decode_bytes, viterbi_score_bytes};
-use refusal::Refusal;
+use f32_answers::word_number;
+use readings::viterbi_decode_bytes;
 
 // Plain K5 at rate 1/2, with no zeros added.
 #[unsafe(no_mangle)]
@@ -44,32 +43,7 @@ pub extern "C" fn relay_decode(
     out: &mut [u8],
     scratch: &mut [u8],
 ) -> u64
-    ensures { DecodesBytes (ScoreNumbersOf result) code rate info readings.now (lent out)
-        (lent scratch) }
+    ensures { DecodesBytes (ScoreNumbers result) code rate info readings.now (lent out) (lent scratch) }
 {
-    word_number(viterbi_score_bytes(code, readings, info, rate, out, scratch))
-}
-
-// The same, with how many places were heard and how many readings go against the word at the front of counts.
-#[unsafe(no_mangle)]
-pub extern "C" fn relay_decode_counted(
-    code: u8,
-    rate: u8,
-    info: usize,
-    readings: &[u8],
-    out: &mut [u8],
-    scratch: &mut [u8],
-    counts: &mut [u32],
-) -> u64
-    ensures { DecodesCounted (ScoreNumbersOf result) code rate info readings.now (lent out) (lent scratch)
-        (lent counts) }
-{
-    let number = correlation::refused_counts(code, rate, info, counts.len());
-    if number != 0 {
-        return refusal::refused_number(Refusal { number, place: 0 });
-    }
-    marked_number(
-        viterbi_decode_bytes(code, readings, info, rate, out, scratch),
-        counts,
-    )
+    word_number(viterbi_decode_bytes(code, readings, info, rate, out, scratch))
 }

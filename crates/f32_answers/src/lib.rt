@@ -2,44 +2,16 @@
 ghost use Rattle.std.specs.Prelude.{◌≡◌, ◌≤◌, length, take};
 ghost use Rattle.f32s.specs.Single.{finite, within, values_in, values_lent};
 ghost use Rattle.refusal.specs.First.{first_bad};
-ghost use Rattle.refusal.specs.Lent.{lent};
-ghost use Rattle.f32_answers.specs.Answer.{word_said, marked_said, ScoresOf, ScoreNumbers, MarkNumbers};
+ghost use Rattle.f32_answers.specs.Answer.{word_said, ScoreNumbers};
 
 use refusal::Refusal;
 
-// The answer of a block decoder that tells the score alone: the word stands in the lent output, and its score is
+// The answer of the block decoder of readings: the word stands in the lent output, and its score is
 // carried here; or a refusal.
 #[derive(Drop)]
 pub enum Decoded {
     Word(f32),
     Refused(Refusal),
-}
-
-// What is told of a decoded word: its score, how many places were heard, and at how many of these the reading goes
-// against the word.
-#[derive(Drop)]
-pub struct Marks {
-    pub score: f32,
-    pub heard: u32,
-    pub against: u32,
-}
-
-// The answer of the block decoder of readings: the word stands in the lent output, and what is told of it is
-// carried here; or a refusal.
-#[derive(Drop)]
-pub enum Marked {
-    Word(Marks),
-    Refused(Refusal),
-}
-
-// That answer with the score alone.
-pub fn score_of(answer: Marked) -> Decoded
-    ensures { ScoresOf result (marked_said answer) }
-{
-    match answer {
-        Marked::Word(marks) => Decoded::Word(marks.score),
-        Marked::Refused(r) => Decoded::Refused(r),
-    }
 }
 
 // That answer as the one number that a door returns.
@@ -49,21 +21,6 @@ pub fn word_number(answer: Decoded) -> u64
     match answer {
         Decoded::Word(score) => f32s::bits_of(score) as u64,
         Decoded::Refused(r) => refusal::refused_number(r),
-    }
-}
-
-// The full answer as that number, with the two counts at the front of counts.
-pub fn marked_number(answer: Marked, counts: &mut [u32]) -> u64
-    requires { 2 ≤ length counts.old }
-    ensures { MarkNumbers result (marked_said answer) (lent counts) }
-{
-    match answer {
-        Marked::Word(marks) => {
-            counts[0] = marks.heard;
-            counts[1] = marks.against;
-            f32s::bits_of(marks.score) as u64
-        }
-        Marked::Refused(r) => refusal::refused_number(r),
     }
 }
 

@@ -6,7 +6,7 @@ use native.Mathlib.Numerals.{add-one}
 use native.Mathlib.Nat.{zero-add}
 use native.Mathlib.Omega.{arith}
 use lib.Ieee.{Float, nan}
-use lib.ListN.{length, get_or, set, take, drop, length-append, length-take, length-set, get_or-append}
+use lib.ListN.{length, get_or, set, take, drop, length-append, length-take, length-set, get_or-append, get_or-eq_default}
 use lib.Seq.{get_or-append-add, get_or-take, take-length, paste, paste-suc, paste-zero}
 use Rattle.f32s.specs.Single.{of_bytes, all_of_bytes, values_in}
 use Rattle.f32s.specs.Inner.{Fills}
@@ -74,6 +74,9 @@ module _ (floats : List Float) (bytes : List ℕ) (i : ℕ) (d : Float) where
       value_at d bytes j h
       ∙ sym (get_or-append-add floats (all_of_bytes bytes) j d)
       ∙ ap (λ (n : ℕ). get_or (values_in floats bytes) n d) here
+
+  pub value_missing : length floats + length bytes / 4 ≤ i → d ≡ value
+  value_missing h = sym (get_or-eq_default (values_in floats bytes) d (omega (arith, h, length-values floats bytes)))
 
 -- ---- the loop: after i turns the first i values stand at the front, and the rest is as it was
 

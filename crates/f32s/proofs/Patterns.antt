@@ -33,7 +33,7 @@ unfolding odd
 written_finite d s zero k l = refl
 written_finite d s (suc q) k l = refl
 
-pub all_ones_not_finite : (s is_zero : Bool) → finite (cond is_zero (inf s) nan) ≡ false
+all_ones_not_finite : (s is_zero : Bool) → finite (cond is_zero (inf s) nan) ≡ false
 all_ones_not_finite s true = refl
 all_ones_not_finite s false = refl
 

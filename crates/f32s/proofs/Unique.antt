@@ -7,10 +7,8 @@ use lib.Ieee.{Float}
 use Rattle.f32s.proofs.is_finite.Reads as is_finite
 use Rattle.f32s.proofs.within.Reads as within
 use Rattle.f32s.proofs.from_bytes.Reads as from_bytes
-use Rattle.f32s.proofs.count_in.Reads as count_in
-use Rattle.f32s.proofs.is_finite_in.Reads as is_finite_in
 use Rattle.f32s.proofs.finite_in.Reads as finite_in
-use Rattle.f32s.proofs.opposes_in.Reads as opposes_in
+use Rattle.f32s.proofs.is_finite_in.Reads as is_finite_in
 use Rattle.f32s.proofs.from_all_bytes.Reads as from_all_bytes
 use Rattle.f32s.proofs.bits_of.Reads as bits_of
 
@@ -26,22 +24,14 @@ pub from_bytes-determined :
     (κs : _) (given : _) (r r' : Float) (left left' : _) → from_bytes.Post κs given r left → from_bytes.Post κs given r' left' → r ≡ r'
 from_bytes-determined κs given r r' left left' p q = p ∙ sym q
 
-pub count_in-determined :
-    (κs : _) (given : _) (r r' : ℕ) (left left' : _) → count_in.Post κs given r left → count_in.Post κs given r' left' → r ≡ r'
-count_in-determined κs given r r' left left' p q = p ∙ sym q
+pub finite_in-determined :
+    (κs : _) (given : _) (r r' : Float) (left left' : _) → finite_in.Post κs given r left → finite_in.Post κs given r' left' → r ≡ r'
+finite_in-determined κs given r r' left left' p q = p ∙ sym q
 
 pub is_finite_in-determined :
     (κs : _) (given : _) (r r' : Bool) (left left' : _) →
     is_finite_in.Post κs given r left → is_finite_in.Post κs given r' left' → r ≡ r'
 is_finite_in-determined κs given r r' left left' p q = p ∙ sym q
-
-pub finite_in-determined :
-    (κs : _) (given : _) (r r' : Float) (left left' : _) → finite_in.Post κs given r left → finite_in.Post κs given r' left' → r ≡ r'
-finite_in-determined κs given r r' left left' p q = p ∙ sym q
-
-pub opposes_in-determined :
-    (κs : _) (given : _) (r r' : Bool) (left left' : _) → opposes_in.Post κs given r left → opposes_in.Post κs given r' left' → r ≡ r'
-opposes_in-determined κs given r r' left left' p q = p ∙ sym q
 
 pub from_all_bytes-determined :
     (κs : _) (given : _) (r r' : ℕ) (left left' : _) → from_all_bytes.Post κs given r left → from_all_bytes.Post κs given r' left' →

@@ -1,5 +1,5 @@
--- Single: one f32: is it finite, is it within ±1,024, is it against a bit, and which number four bytes make. Whole: a
--- float that is a whole number. Bounded: a float between two bounds. Inner: what the functions ask and ensure.
+-- Single: one f32: is it finite, is it within ±1,024, and which number four bytes make. Whole: a float that is a whole
+-- number. Bounded: a float between two bounds. Inner: what the functions ensure.
 pub mod Single
 pub mod Whole
 pub mod Bounded

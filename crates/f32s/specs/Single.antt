@@ -1,10 +1,9 @@
--- One f32: is it finite, is it within ±1,024, is it against a bit, and the value of four bytes; and of many.
--- Definitions only.
-use Rattle.std.specs.Prelude.{Bool, true, false, cond, ◌&&◌, List, [], ◌∷◌, ◌++◌, ℕ, ◌+◌, ◌*◌, eqb, Float}
+-- One f32: is it finite, is it within ±1,024, and the value of four bytes; and of many. Definitions only.
+use Rattle.std.specs.Prelude.{Bool, true, false, ◌&&◌, List, [], ◌∷◌, ◌++◌, ℕ, ◌+◌, ◌*◌, Float}
 use Rattle.std.specs.Borrow.{Bor}
 use denote.Triple.Both.{Both}
 use Rattle.std.specs.Float.{nan, inf, fin, binary32}
-use Rattle.std.specs.Float.Ieee.{of_bits, neg, lt, le}
+use Rattle.std.specs.Float.Ieee.{of_bits, neg, le}
 
 abbrev pub zero32 : Float
 zero32 = of_bits binary32 0
@@ -22,10 +21,6 @@ farthest = of_bits binary32 0x4480_0000
 -- neither NaN nor beyond ±1,024
 abbrev pub within : Float → Bool
 within x = le (neg farthest) x && le x farthest
-
--- below 0 where the bit is 0, above 0 where it is 1: a zero of either sign is against neither
-abbrev pub opposes : (bit : ℕ) → Float → Bool
-opposes bit x = cond (eqb bit 0) (lt x zero32) (lt zero32 x)
 
 -- the bits that four bytes have, low first
 abbrev pub joined : (b0 b1 b2 b3 : ℕ) → ℕ

@@ -2,8 +2,8 @@
 ghost use Rattle.std.specs.Prelude.{true, ◌≡◌, ◌+◌, ◌/◌, ◌<◌, min, length, get_or};
 ghost use Rattle.std.specs.Float.{binary32};
 ghost use Rattle.std.specs.Float.Ieee.{to_bits};
-ghost use Rattle.f32s.specs.Single.{zero32, finite, within, opposes, joined, of_bytes, values_in, values_lent};
-ghost use Rattle.f32s.specs.Inner.{Readable, Opposable, Fills};
+ghost use Rattle.f32s.specs.Single.{zero32, finite, within, joined, of_bytes, values_in, values_lent};
+ghost use Rattle.f32s.specs.Inner.{Fills};
 
 // Neither NaN nor infinite: a NaN is below nothing.
 pub fn is_finite(x: f32) -> bool
@@ -53,25 +53,8 @@ fn are_finite(b0: u8, b1: u8, b2: u8, b3: u8) -> bool
     joined(b0, b1, b2, b3) / 0x80_0000 % 256 != 255
 }
 
-// Does the f32 of four bytes, which is finite, go against a coded bit? By the bits, without making it and without a
-// branch: with the sign's bit turned by the coded bit, only what is against stands above the bits of -0.0.
-fn bytes_oppose(bit: u8, b0: u8, b1: u8, b2: u8, b3: u8) -> bool
-    requires { (bit < 2) × (finite (of_bytes b0 b1 b2 b3) ≡ true) }
-    ensures { result ≡ opposes bit (of_bytes b0 b1 b2 b3) }
-{
-    let n = joined(b0, b1, b2, b3);
-    0x8000_0000 < (n ^ (0x8000_0000 * (bit as u32)))
-}
-
 // ---- f32s that lie in two places, in floats and, behind those, in bytes, four bytes each: so each is read where it
 // lies, and nobody needs room to bring them together
-
-// How many there are.
-pub fn count_in(floats: &[f32], bytes: &[u8]) -> usize
-    ensures { result ≡ length (values_lent floats bytes) }
-{
-    floats.len() + bytes.len() / 4
-}
 
 // Is the f32 of a number, counted from 0, finite?
 pub fn is_finite_in(floats: &[f32], bytes: &[u8], i: usize) -> bool
@@ -85,34 +68,20 @@ pub fn is_finite_in(floats: &[f32], bytes: &[u8], i: usize) -> bool
     are_finite(bytes[at], bytes[at + 1], bytes[at + 2], bytes[at + 3])
 }
 
-// The f32 of a number, which is there and finite.
+// The f32 of a number, which is finite; 0.0 where there are not so many.
 pub fn finite_in(floats: &[f32], bytes: &[u8], i: usize) -> f32
-    requires { Readable (values_in floats.now bytes.now) i }
+    requires { finite (get_or (values_in floats.now bytes.now) i zero32) ≡ true }
     ensures { result ≡ get_or (values_lent floats bytes) i zero32 }
 {
     if i < floats.len() {
         return floats[i];
     }
     let behind = i - floats.len();
-    let at = 4 * behind;
-    from_finite(bytes[at], bytes[at + 1], bytes[at + 2], bytes[at + 3])
-}
-
-// Does the f32 of a number, which is there and finite, go against a coded bit: is it below 0 where the bit is 0, above
-// 0 where it is 1? A zero of either sign goes against none.
-pub fn opposes_in(bit: u8, floats: &[f32], bytes: &[u8], i: usize) -> bool
-    requires { Opposable bit (values_in floats.now bytes.now) i }
-    ensures { result ≡ opposes bit (get_or (values_lent floats bytes) i zero32) }
-{
-    if i < floats.len() {
-        let x = floats[i];
-        if bit == 0 {
-            return x < 0.0;
-        }
-        return 0.0 < x;
+    if behind < bytes.len() / 4 {
+        let at = 4 * behind;
+        return from_finite(bytes[at], bytes[at + 1], bytes[at + 2], bytes[at + 3]);
     }
-    let at = 4 * (i - floats.len());
-    bytes_oppose(bit, bytes[at], bytes[at + 1], bytes[at + 2], bytes[at + 3])
+    0.0
 }
 
 // The f32s of bytes, four bytes each: as many as there are and there is room for. They go to the front of

@@ -2,7 +2,7 @@
 -- arithmetic is in crate `correlation`. Definitions only.
 use Rattle.std.specs.Prelude.{List, ℕ, Float}
 use Rattle.std.specs.Float.{binary32}
-use Rattle.std.specs.Float.Ieee.{add, sub, neg, lt}
+use Rattle.std.specs.Float.Ieee.{add, sub, neg}
 use Rattle.butterflies.specs.Largest.{largest}
 use Rattle.correlation.specs.Arithmetic.{Arithmetic, Kind}
 use Rattle.correlation.specs.Gain as any
@@ -18,7 +18,6 @@ floats =
       plus = λ (a b : Float). add binary32 a b;
       minus = λ (a b : Float). sub binary32 a b;
       negative = λ (a : Float). neg a;
-      less = λ (a b : Float). lt a b;
     }
 
 -- The larger sum is better, and state 0 starts at 0.0.

@@ -9,7 +9,7 @@ ghost use Rattle.forward.specs.Inner.{Selects, KeptFinite, Runnable, Runs};
 ghost use Rattle.forward.specs.Sums.{value_of};
 
 use butterflies::largest::{MARK, butterfly, signed};
-use trellis::{ConvCode, KeepPattern, Origin};
+use trellis::{ConvCode, KeepPattern};
 
 // One step that reads a and b: the new metrics go to the front of next, the survivors to the front of row.
 // Survivor numbers come from a counter of their own: made from n they keep the loop from being
@@ -73,11 +73,10 @@ fn value_at(column: u8, floats: &[f32], bytes: &[u8], at: usize) -> f32
     requires { KeptFinite column (values_in floats.now bytes.now) at }
     ensures { result ≡ value_of (filled (eqb column 1) (values_lent floats bytes) at) }
 {
-    let origin = trellis::origin_of(column, at, f32s::count_in(floats, bytes));
-    match origin {
-        Origin::Received => f32s::finite_in(floats, bytes, at),
-        Origin::Missing => 0.0,
-        Origin::Deleted => 0.0,
+    if column == 1 {
+        f32s::finite_in(floats, bytes, at)
+    } else {
+        0.0
     }
 }
 

@@ -8,6 +8,7 @@ use native.Mathlib.Decide.{dec_lt}
 use native.Mathlib.Nat.{mul-le-mul}
 use native.Mathlib.Omega.{arith}
 use borrow.Author.Tests.{lt-ltb, le-ltb}
+use lib.Ieee.{Float}
 use lib.ListN.{length, take, drop, replicate}
 use lib.Pow.{pow_mono}
 use lib.Seq.{take_at}
@@ -18,10 +19,9 @@ use Rattle.f32s.specs.Single.{all_of_bytes}
 use Rattle.forward.specs.Decode.{word}
 use Rattle.forward.specs.Sums.{soft}
 use Rattle.correlation.specs.Said.{answered}
-use Rattle.f32_answers.specs.Answer.{marks_of, marked_said}
-use Rattle.f32_answers.specs.declared.Marked.{Marked}
-use Rattle.f32_answers.specs.declared.Marked.TheVariants as variants
-use Rattle.f32_answers.specs.declared.Marks.{Marks}
+use Rattle.f32_answers.specs.Answer.{word_said}
+use Rattle.f32_answers.specs.declared.Decoded.{Decoded}
+use Rattle.f32_answers.specs.declared.Decoded.TheVariants as variants
 use Rattle.readings.specs.Said.{survivors_of, decode_said}
 use Rattle.refusal.specs.Answer.{accepted, refused}
 use Rattle.refusal.specs.declared.Refusal.{Refusal}
@@ -79,14 +79,14 @@ survivors_few code info h =
 
 -- A call of the decoder for a shaped input whose choice passes: with the readings' bytes, room for the most info bits and
 -- scratch for their survivors.
-pub record Called (input bytes : List ℕ) (number : ℕ) (answer : Marked) : Type 0 where
+pub record Called (input bytes : List ℕ) (number : ℕ) (answer : Decoded) : Type 0 where
   pub choice : Decided input number
   pub passes : number ≡ 0
   pub behind : bytes ≡ drop 4 input
   pub says :
-      marked_said answer ≡ decode_said (code_in input) (rate_in input) (info_in input) (all_of_bytes bytes) most_info most_survivors
+      word_said answer ≡ decode_said (code_in input) (rate_in input) (info_in input) (all_of_bytes bytes) most_info most_survivors
 
-module _ {input bytes : List ℕ} {number : ℕ} {answer : Marked} (call : Called input bytes number answer) where
+module _ {input bytes : List ℕ} {number : ℕ} {answer : Decoded} (call : Called input bytes number answer) where
   pub info_few : info_in input ≤ most_info
   info_few = choice_few call.choice.decides call.passes
 
@@ -103,18 +103,18 @@ module _ {input bytes : List ℕ} {number : ℕ} {answer : Marked} (call : Calle
         le-ltb most_survivors (survivors_of (code_in input) (info_in input)) (survivors_few (code_in input) (info_in input) info_few),
       )
 
-  said_answer : line_said input ≡ marked_said answer
+  said_answer : line_said input ≡ word_said answer
   said_answer = said_decoded ∙ sym call.says
 
   pub refused_output :
       {r found : Refusal} → answer ≡ variants.Refused r → RefusalIn answer found → output input ≡ line_of (refusal_said found) []
   refused_output e is_in =
       output_refused input _ _
-      (said_answer ∙ ap marked_said e ∙ sym (is_in.same ∙ ap (λ (a : Marked). refusal_in (marked_said a)) e))
+      (said_answer ∙ ap word_said e ∙ sym (is_in.same ∙ ap (λ (a : Decoded). refusal_in (word_said a)) e))
 
-  module _ {marks : Marks} (e : answer ≡ variants.Word marks) where
-    said_accepted : line_said input ≡ accepted (marks_of marks)
-    said_accepted = said_answer ∙ ap marked_said e
+  module _ {score : Float} (e : answer ≡ variants.Word score) where
+    said_accepted : line_said input ≡ accepted score
+    said_accepted = said_answer ∙ ap word_said e
 
     -- what the call left in the word's room
     module _
@@ -135,6 +135,6 @@ module _ {input bytes : List ℕ} {number : ℕ} {answer : Marked} (call : Calle
           ∙ take_at (word_in input) _ (info_in input)
           (length-word soft (code_of (code_in input)) (pattern_of (code_in input) (rate_in input)) (readings_in input) (info_in input))
 
-      pub word_output : output input ≡ line_of (accepted (marks_of marks)) (take (info_in input) left)
+      pub word_output : output input ≡ line_of (accepted score) (take (info_in input) left)
       unfolding output
       word_output = rw (said_accepted, front_word)

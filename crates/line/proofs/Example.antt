@@ -2,23 +2,17 @@
 use mathlib.Core.List.{[], ◌∷◌}
 use mathlib.Core.Path.{◌≡◌, refl}
 use lib.Count.{ones}
-use lib.Ieee.{of_bits, to_bits, sub, le, lt}
+use lib.Ieee.{of_bits, to_bits, sub, le}
 use Rattle.f32s.specs.Single.{all_of_bytes}
 use Rattle.refusal.specs.First.{first_bad}
 use Rattle.trellis.specs.Choice.{code_of, pattern_of, rates_of}
-use Rattle.trellis.specs.Codeword.{codeword}
 use Rattle.trellis.specs.Keep.{keeps_by}
 use Rattle.trellis.specs.State.{next_state}
-use Rattle.text.specs.Text.{decimal_digits}
 use Rattle.line.specs.Line.{output}
 
--- 00 00 01 00 00 00 80 BF give `word 1 score 3F800000 heard 1 against 0` and a newline
+-- 00 00 01 00 00 00 80 BF give `word 1 score 3F800000` and a newline
 pub example :
     output (0 ∷ 0 ∷ 1 ∷ 0 ∷ 0 ∷ 0 ∷ 128 ∷ 191 ∷ [])
-    ≡ 119 ∷ 111 ∷ 114 ∷ 100 ∷ 32 ∷ 49
-    ∷ 32 ∷ 115 ∷ 99 ∷ 111 ∷ 114 ∷ 101 ∷ 32 ∷ 51 ∷ 70 ∷ 56 ∷ 48 ∷ 48 ∷ 48 ∷ 48 ∷ 48
-    ∷ 32 ∷ 104 ∷ 101 ∷ 97 ∷ 114 ∷ 100 ∷ 32 ∷ 49
-    ∷ 32 ∷ 97 ∷ 103 ∷ 97 ∷ 105 ∷ 110 ∷ 115 ∷ 116 ∷ 32 ∷ 48 ∷ 10 ∷ []
-unfolding output all_of_bytes first_bad code_of pattern_of rates_of keeps_by next_state ones of_bits to_bits sub le lt codeword
-    decimal_digits
+    ≡ 119 ∷ 111 ∷ 114 ∷ 100 ∷ 32 ∷ 49 ∷ 32 ∷ 115 ∷ 99 ∷ 111 ∷ 114 ∷ 101 ∷ 32 ∷ 51 ∷ 70 ∷ 56 ∷ 48 ∷ 48 ∷ 48 ∷ 48 ∷ 48 ∷ 10 ∷ []
+unfolding output all_of_bytes first_bad code_of pattern_of rates_of keeps_by next_state ones of_bits to_bits sub le
 example = refl

@@ -3,13 +3,11 @@ use Rattle.std.specs.Prelude.{Bool, not, ◌&&◌, List, [], ◌∷◌, ◌++◌
 use Rattle.std.specs.Float.{binary32}
 use Rattle.std.specs.Float.Ieee.{to_bits}
 use Rattle.correlation.specs.Decode as any
-use Rattle.correlation.specs.Said.{marks}
 use Rattle.encoder.specs.Encode.{coded_length_of, checked_to}
 use Rattle.f32s.specs.Single.{all_of_bytes}
 use Rattle.forward.specs.Decode.{word, score}
-use Rattle.forward.specs.Sums.{soft}
 use Rattle.readings.specs.Said.{examined}
-use Rattle.refusal.specs.Answer.{Said, Marks, accepted, refused, refuse_when}
+use Rattle.refusal.specs.Answer.{Said, accepted, refused, refuse_when}
 use Rattle.refusal.specs.Numbers.{bad_input}
 use Rattle.trellis.specs.Choice.{k7, code_of, pattern_of}
 use Rattle.trellis.specs.Codeword.{steps_of}
@@ -26,10 +24,9 @@ most_info = 1000
 abbrev pub most_survivors : ℕ
 most_survivors = steps_of k7 most_info * 2 ^ k7.width
 
--- The bytes of a line: beside the word it has 37 and two counts, which have ten digits at the most, so 57. No input
--- earns more than 45: no count exceeds its 2,047 readings.
+-- the bytes of a line: the longest has 21 more than info bits
 abbrev pub line_bytes : ℕ
-line_bytes = most_info + 88
+line_bytes = most_info + 24
 
 -- 4 + 4k bytes, and no more than the most
 abbrev pub shaped : ℕ → Bool
@@ -50,15 +47,13 @@ module _ (input : List ℕ) where
   readings_in = all_of_bytes (drop 4 input)
 
   -- a bad input is refused first, then what a decoding refuses, with a limit of the program's own
-  unfoldable pub line_said : Said (Marks Float)
-  unfolding marks any.score
+  unfoldable pub line_said : Said Float
+  unfolding any.score
   line_said =
       refuse_when (not (shaped (length input))) bad_input
       (checked_to most_info code_in rate_in info_in
       (examined (take (coded_length_of code_in rate_in info_in) readings_in)
-      (accepted
-      (marks soft code_in rate_in info_in readings_in
-      (score (code_of code_in) (pattern_of code_in rate_in) readings_in info_in)))))
+      (accepted (score (code_of code_in) (pattern_of code_in rate_in) readings_in info_in))))
 
   unfoldable pub word_in : List ℕ
   unfolding any.word
@@ -72,12 +67,6 @@ word_space = 119 ∷ 111 ∷ 114 ∷ 100 ∷ 32 ∷ []
 abbrev pub space_score_space : List ℕ
 space_score_space = 32 ∷ 115 ∷ 99 ∷ 111 ∷ 114 ∷ 101 ∷ 32 ∷ []
 
-abbrev pub space_heard_space : List ℕ
-space_heard_space = 32 ∷ 104 ∷ 101 ∷ 97 ∷ 114 ∷ 100 ∷ 32 ∷ []
-
-abbrev pub space_against_space : List ℕ
-space_against_space = 32 ∷ 97 ∷ 103 ∷ 97 ∷ 105 ∷ 110 ∷ 115 ∷ 116 ∷ 32 ∷ []
-
 abbrev pub refused_space : List ℕ
 refused_space = 114 ∷ 101 ∷ 102 ∷ 117 ∷ 115 ∷ 101 ∷ 100 ∷ 32 ∷ []
 
@@ -87,14 +76,10 @@ space_at_space = 32 ∷ 97 ∷ 116 ∷ 32 ∷ []
 abbrev pub newline : List ℕ
 newline = 10 ∷ []
 
--- `word BITS score BITS heard COUNT against COUNT`, or `refused NUMBER at PLACE`
-abbrev pub line_of : Said (Marks Float) → List ℕ → List ℕ
-line_of (accepted m) bits =
-    (((((((word_space ++ word_text bits)
-    ++ space_score_space) ++ hex_digits 8 (to_bits binary32 m.score))
-    ++ space_heard_space) ++ decimal m.heard)
-    ++ space_against_space) ++ decimal m.against)
-    ++ newline
+-- `word BITS score BITS`, or `refused NUMBER at PLACE`
+abbrev pub line_of : Said Float → List ℕ → List ℕ
+line_of (accepted score) bits =
+    (((word_space ++ word_text bits) ++ space_score_space) ++ hex_digits 8 (to_bits binary32 score)) ++ newline
 line_of (refused number place) bits = (((refused_space ++ decimal number) ++ space_at_space) ++ decimal place) ++ newline
 
 unfoldable pub output : List ℕ → List ℕ

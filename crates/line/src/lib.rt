@@ -1,12 +1,11 @@
 // The relay program's answer: from the bytes of its input to those of its output.
 ghost use Rattle.std.specs.Prelude.{[], ◌≡◌, ◌+◌, ◌≤◌, length, replicate};
-ghost use Rattle.f32_answers.specs.Answer.{marks_of};
 ghost use Rattle.refusal.specs.Answer.{accepted};
 ghost use Rattle.line.specs.Line.{most_bytes, most_info, shaped};
 ghost use Rattle.line.specs.Promise.{AnswersInput};
 ghost use Rattle.line.specs.Inner.{refusal_said, RefusalIn, PrintsAnswer};
 
-use f32_answers::{Marked, Marks};
+use f32_answers::Decoded;
 use refusal::Refusal;
 use text::{put, put_decimal, put_hex, put_word};
 
@@ -21,8 +20,8 @@ pub const ROOM: usize = MOST_BYTES + 1;
 // The survivors of as many info bits in the widest code.
 const SURVIVORS: usize = (MOST_INFO + trellis::WIDEST) * trellis::MOST_STATES;
 
-// The bytes of a line: whatever its counts are, it has no more than 57 beside the word.
-const LINE_BYTES: usize = MOST_INFO + 88;
+// The bytes of a line: the longest has 21 more than info bits.
+const LINE_BYTES: usize = MOST_INFO + 24;
 
 // A line stands at the front of its bytes, and zeros behind it.
 #[derive(Drop)]
@@ -52,15 +51,15 @@ fn is_shaped(n: usize) -> bool
 }
 
 // The refusal in an answer that is not a word.
-fn refusal_in(answer: Marked) -> Refusal
+fn refusal_in(answer: Decoded) -> Refusal
     ensures { RefusalIn answer result }
 {
     match answer {
-        Marked::Word(_) => Refusal {
+        Decoded::Word(_) => Refusal {
             number: 0,
             place: 0,
         },
-        Marked::Refused(r) => r,
+        Decoded::Refused(r) => r,
     }
 }
 
@@ -76,19 +75,15 @@ fn refused_line(r: Refusal) -> Line
     Line { bytes, count }
 }
 
-fn word_line(word: &[u8], marks: Marks) -> Line
+fn word_line(word: &[u8], score: f32) -> Line
     requires { length word.now ≤ most_info }
-    ensures { PrintsAnswer (accepted (marks_of marks)) word.now result }
+    ensures { PrintsAnswer (accepted score) word.now result }
 {
     let mut bytes = [0; LINE_BYTES];
     let word_at = put(&mut bytes[..], 0, b"word ");
     let score_at = put_word(&mut bytes[..], word_at, word);
     let bits_at = put(&mut bytes[..], score_at, b" score ");
-    let heard_at = put_hex(&mut bytes[..], bits_at, f32s::bits_of(marks.score));
-    let places_at = put(&mut bytes[..], heard_at, b" heard ");
-    let against_at = put_decimal(&mut bytes[..], places_at, marks.heard);
-    let readings_at = put(&mut bytes[..], against_at, b" against ");
-    let end_at = put_decimal(&mut bytes[..], readings_at, marks.against);
+    let end_at = put_hex(&mut bytes[..], bits_at, f32s::bits_of(score));
     let count = put(&mut bytes[..], end_at, b"\n");
     Line { bytes, count }
 }
@@ -118,8 +113,8 @@ pub fn answer(input: &[u8]) -> Line
         &mut word[..],
         &mut scratch[..],
     );
-    let Marked::Word(marks) = decoded else {
+    let Decoded::Word(score) = decoded else {
         return refused_line(refusal_in(decoded));
     };
-    word_line(&word[..info], marks)
+    word_line(&word[..info], score)
 }

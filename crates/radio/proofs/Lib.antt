@@ -1,3 +1,3 @@
--- Told: each door's number tells its answer. Unique: each contract allows one outcome at most.
+-- Told: the door's number tells its answer. Unique: the contract allows one outcome at most.
 pub mod Told
 pub mod Unique

@@ -8,14 +8,13 @@ use lib.Ieee.{Float}
 use lib.ListN.{take}
 use lib.Seq.{take-take}
 use Rattle.correlation.proofs.Limit.{limit_answers, limit_leaves}
-use Rattle.correlation.proofs.Marks.{marks_taken}
 use Rattle.correlation.proofs.Surplus.{rows_taken, word_taken, score_taken}
 use Rattle.correlation.proofs.Used.{length-few}
 use Rattle.encoder.specs.Encode.{coded_length_of}
 use Rattle.f32s.specs.Single.{finite}
 use Rattle.forward.specs.Decode.{word, filled_rows}
 use Rattle.forward.specs.Sums.{soft}
-use Rattle.refusal.specs.Answer.{Said, Marks}
+use Rattle.refusal.specs.Answer.{Said}
 use Rattle.refusal.specs.Limits.{most}
 use Rattle.refusal.specs.Numbers.{bad_reading}
 use Rattle.refusal.specs.Lent.{leaves}
@@ -28,24 +27,23 @@ module _ (code rate info : ℕ) (readings : List Float) (room scratch n : ℕ) (
   within : info ≤ most → coded_length_of code rate info ≤ n
   within h = omega (arith, length-few code rate info h)
 
-  abbrev said : Said (Marks Float)
+  abbrev said : Said Float
   said = decode_said code rate info readings room scratch
 
-  abbrev said_of_front : Said (Marks Float)
+  abbrev said_of_front : Said Float
   said_of_front = decode_said code rate info (take n readings) room scratch
 
   pub surplus_said : said_of_front ≡ said
   surplus_said =
       limit_answers bad_reading finite code rate info room scratch (take n readings) readings _ _
       (λ h. take-take (coded_length_of code rate info) n readings (within h))
-      (λ h. marks_taken soft code rate info readings n (within h)
-      (score_taken soft (code_of code) (pattern_of code rate) (rate_pattern code rate) readings n info (within h)))
+      (λ h. score_taken soft (code_of code) (pattern_of code rate) (rate_pattern code rate) readings n info (within h))
 
   -- so what a call would write has to be the same up to the limit only
   surplus_leaves :
       (new other old : List ℕ) → (info ≤ most → new ≡ other) → leaves said_of_front new old ≡ leaves said other old
   surplus_leaves new other old same =
-      ap (λ (s : Said (Marks Float)). leaves s new old) surplus_said
+      ap (λ (s : Said Float). leaves s new old) surplus_said
       ∙ limit_leaves bad_reading finite code rate info room scratch readings _ new other old same
 
   pub surplus_output :

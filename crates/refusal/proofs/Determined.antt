@@ -31,11 +31,6 @@ OnceBoth {R} {X} {Y} Allowed =
     (r r' : R) (out out' : Bor X) (work work' : Bor Y) → Allowed r out work → Allowed r' out' work' →
     (r ≡ r') × (out.now ≡ out'.now) × (work.now ≡ work'.now)
 
-abbrev pub OnceThree : {R X Y Z : Type 0} → (R → Bor X → Bor Y → Bor Z → Type 0) → Type 0
-OnceThree {R} {X} {Y} {Z} Allowed =
-    (r r' : R) (out out' : Bor X) (work work' : Bor Y) (told told' : Bor Z) → Allowed r out work told → Allowed r' out' work' told' →
-    (r ≡ r') × (out.now ≡ out'.now) × (work.now ≡ work'.now) × (told.now ≡ told'.now)
-
 -- a way to read an answer that tells any two apart
 abbrev pub Telling : {R A : Type 0} → (R → Said A → Type 0) → Type 0
 Telling {R} {A} Answers = (said : Said A) → Once (λ (r : R). Answers r said)

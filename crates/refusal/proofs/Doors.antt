@@ -51,10 +51,3 @@ module _ {A : Type 0} (value : A → ℕ) where
           Crosses value (cond test (refused number (first_bad is_good xs)) rest)
       go true bad = numbered {place = first_bad is_good xs} some (omega (arith, ltb-true (first_bad is_good xs) (length xs) bad))
       go false good = later
-
--- the same of a value that is part of what is told
-pub value_tells_of :
-    {A B : Type 0} (value : B → ℕ) (part : A → B) (s : Said A) → Crosses (λ (a : A). value (part a)) s →
-    door_read (door_number (said_as value (said_as part s))) ≡ said_as value (said_as part s)
-value_tells_of value part (accepted a) crosses = value_tells (λ a. value (part a)) (accepted a) crosses
-value_tells_of value part (refused number place) crosses = value_tells (λ a. value (part a)) (refused number place) crosses

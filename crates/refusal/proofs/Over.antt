@@ -6,7 +6,7 @@ use native.Mathlib.Numerals.{add-one}
 use native.Mathlib.Omega.{arith}
 use lib.ListN.{length, drop, take, set, length-append, length-drop, take-append-drop}
 use lib.Seq.{length-take-le, take-append_seam, drop-append-add, drop-drop, set_split, append_snoc}
-use Rattle.refusal.specs.Answer.{Said, accepted, refused, said_as}
+use Rattle.refusal.specs.Answer.{Said, accepted, refused}
 use Rattle.refusal.specs.Lent.{over, leaves, Lent, Writes, WritesBoth}
 
 module _ {B : Type 0} where
@@ -52,19 +52,6 @@ module _ {B : Type 0} where
   unfolding over
   accepted_leaves {A} said a accepts put n sized new old e =
       e ∙ ap (λ (m : ℕ). put ++ drop m old) (sym sized) ∙ ap (λ (s : Said A). leaves s put old) (sym accepts)
-
--- two elements, one after the other
-pub over_pair : {B : Type 0} (old : List B) (a b : B) → 2 ≤ length old → set (set old 0 a) 1 b ≡ over (a ∷ b ∷ []) old
-unfolding over
-over_pair [] a b h = absurd (omega (arith, h))
-over_pair (x ∷ []) a b h = absurd (omega (arith, h))
-over_pair (x ∷ y ∷ rest) a b h = refl
-
--- what is left does not depend on how the value is told
-pub leaves_as :
-    {A A' B : Type 0} (value : A → A') (said : Said A) (new old : List B) → leaves (said_as value said) new old ≡ leaves said new old
-leaves_as value (accepted a) new old = refl
-leaves_as value (refused number place) new old = refl
 
 -- ---- how a promise is kept
 

@@ -31,17 +31,6 @@ abbrev pub said_as : {A B : Type 0} → (A → B) → Said A → Said B
 said_as value (accepted a) = accepted (value a)
 said_as value (refused number place) = refused number place
 
--- What is told of a decoded word: its score, how many places were heard, and at how many of these the reading goes
--- against the word.
-pub record Marks (S : Type 0) : Type 0 where
-  pub score : S
-  pub heard : ℕ
-  pub against : ℕ
-
--- the answer of a call that tells so much, with the score alone
-abbrev pub score_said : {S : Type 0} → Said (Marks S) → Said S
-score_said {S} said = said_as (λ (m : Marks S). m.score) said
-
 -- An answer as the one number that a door returns: the count or the score's bits, or on a refusal its number times 2^32
 -- plus the place.
 unfoldable pub door_number : Said ℕ → ℕ

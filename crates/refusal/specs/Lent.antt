@@ -1,8 +1,8 @@
 -- What a call leaves in a buffer that was lent to it. Definitions only.
-use Rattle.std.specs.Prelude.{List, [], ◌∷◌, ◌++◌, ◌≡◌, ℕ, ◌+◌, ◌≤◌, length, take, drop}
+use Rattle.std.specs.Prelude.{List, ◌++◌, ◌≡◌, ℕ, ◌+◌, ◌≤◌, length, take, drop}
 use Rattle.std.specs.Borrow.{Bor}
 use denote.Triple.Both.{Both}
-use Rattle.refusal.specs.Answer.{Said, Marks, accepted, refused}
+use Rattle.refusal.specs.Answer.{Said, accepted, refused}
 
 -- `new` written over the front of `old`, which keeps what lies beyond
 unfoldable pub over : {B : Type 0} → List B → List B → List B
@@ -12,14 +12,6 @@ over new old = new ++ drop (length new) old
 abbrev pub leaves : {A B : Type 0} → Said A → List B → List B → List B
 leaves (accepted a) new old = over new old
 leaves (refused number place) new old = old
-
--- The two counts that are told of a word, heard and against, at the front; again a refusal changes nothing.
-abbrev pub counts_of : {A : Type 0} → Marks A → List ℕ
-counts_of m = m.heard ∷ m.against ∷ []
-
-abbrev pub leaves_counts : {A : Type 0} → Said (Marks A) → List ℕ → List ℕ
-leaves_counts (accepted m) old = over (counts_of m) old
-leaves_counts (refused number place) old = old
 
 -- a buffer that is lent to a call: what it holds at entry, and what the call leaves in it
 pub record Lent (B : Type 0) : Type 0 where

@@ -6,7 +6,7 @@ ghost use Rattle.trellis.specs.Places.{value_of, filled};
 ghost use Rattle.signed_forward.specs.Inner.{Steppable, SteppableOf, Steps, Runnable, Runs};
 
 use signed_butterflies::turn;
-use trellis::{ConvCode, KeepPattern, Origin};
+use trellis::{ConvCode, KeepPattern};
 
 // −2^30: a state that was not reached starts here.
 const MARK: i32 = -1073741824;
@@ -74,15 +74,13 @@ fn step_of(
 fn value_at(column: u8, readings: &[i8], at: usize) -> i32
     ensures { result ≡ value_of (pos 0) (filled (eqb column 1) readings.now at) }
 {
-    let origin = trellis::origin_of(column, at, readings.len());
-    match origin {
-        Origin::Received => {
+    if column == 1 {
+        if at < readings.len() {
             let reading = readings[at];
-            reading as i32
+            return reading as i32;
         }
-        Origin::Missing => 0,
-        Origin::Deleted => 0,
     }
+    0
 }
 
 // All steps, from state 0. The survivors of each go to a row of rows; answers state 0's last metric.

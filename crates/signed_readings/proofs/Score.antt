@@ -22,7 +22,6 @@ use Rattle.signed_butterflies.proofs.Words.{small_fits, as_held}
 use Rattle.trellis.specs.declared.ConvCode.{ConvCode}
 use Rattle.trellis.specs.Codeword.{steps_of}
 use Rattle.trellis.specs.Keep.{Keep}
-use Rattle.signed_readings.specs.declared.Found.{Found}
 use Rattle.signed_readings.specs.Inner.{Finds}
 use Rattle.signed_readings.specs.Said.{score}
 
@@ -43,21 +42,16 @@ reached_total {x} {z} e = go (lt_z x floor) refl
     go true h = (cc, cc)
     go false h = (h, sym (rw h) ∙ e)
 
-abbrev found : ℤ → ℕ → Found
-found score opposed = record { score = score; against = opposed }
-
 -- so what a way back over the rows finds with the metric, it finds with the score
 pub finds_score :
-    {code : ConvCode} {p : Keep} {states info : ℕ} {readings : List ℤ} {r : ℤ} {opposed : ℕ} {out scratch : Lent ℕ}
-    (counting : Bool) → 0 < code.width → 254 * steps_of code info ≤ 2 ^ 28 → Near (254 * steps_of code info) r →
+    {code : ConvCode} {p : Keep} {states info : ℕ} {readings : List ℤ} {r : ℤ} {out scratch : Lent ℕ} → 0 < code.width →
+    254 * steps_of code info ≤ 2 ^ 28 → Near (254 * steps_of code info) r →
     inner.Finds exactly code p states info readings (total_of r) out scratch →
-    inner.Counted counting exactly code p info readings opposed →
-    Finds counting code p states info readings (found (to_z w32 (of_z w32 r)) opposed) out scratch
-finds_score {code} {p} {states} {info} {readings} {r} {opposed} {out} {scratch} counting some few near finds counted =
+    Finds code p states info readings (to_z w32 (of_z w32 r)) out scratch
+finds_score {code} {p} {states} {info} {readings} {r} {out} {scratch} some few near finds =
     let known = reached_total (finds.scored ∙ score_counts code some p readings info) in
     let small = near_reached (254 * steps_of code info) few r near known.0 in
-    as_held (λ (z : ℤ). Finds counting code p states info readings (found z opposed) out scratch) r
-    (small_fits r (omega (arith, small, few)))
+    as_held (λ (z : ℤ). Finds code p states info readings z out scratch) r (small_fits r (omega (arith, small, few)))
     (record {
       found =
           record {
@@ -66,5 +60,4 @@ finds_score {code} {p} {states} {info} {readings} {r} {opposed} {out} {scratch} 
             survivors = finds.survivors;
           };
       small = small;
-      counted = counted;
     })

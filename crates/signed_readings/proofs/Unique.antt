@@ -1,21 +1,13 @@
 -- Of the entry, any two outcomes that its contract allows are equal. `Post` is the contract as the prover reads it: of what
 -- the call is given, what it returns, and what it leaves in each argument. Assumes nothing.
 use Rattle.refusal.proofs.Determined.{OnceBoth, both_once}
-use Rattle.signed_answers.specs.Answer.{Tells, ScoresOf}
-use Rattle.signed_answers.proofs.Told.{marks_tell, scores_of_tell}
+use Rattle.signed_answers.specs.Answer.{Scores}
+use Rattle.signed_answers.proofs.Told.{scores_tell}
 use Rattle.signed_readings.proofs.viterbi_decode_signed_with.Reads as viterbi_decode_signed_with
-use Rattle.signed_readings.proofs.viterbi_score_signed.Reads as viterbi_score_signed
 
 pub decodes_signed_once :
     (κs code readings info rate out scratch : _) →
     OnceBoth (λ r left work.
     viterbi_decode_signed_with.Post κs (code, (readings, (info, (rate, (out, (scratch, tt)))))) r
     (code, (readings, (info, (rate, (left, (work, tt)))))))
-decodes_signed_once κs code readings info rate out scratch = both_once Tells marks_tell _ _ _ _ _
-
-pub scores_signed_once :
-    (κs code readings info rate out scratch : _) →
-    OnceBoth (λ r left work.
-    viterbi_score_signed.Post κs (code, (readings, (info, (rate, (out, (scratch, tt)))))) r
-    (code, (readings, (info, (rate, (left, (work, tt)))))))
-scores_signed_once κs code readings info rate out scratch = both_once ScoresOf scores_of_tell _ _ _ _ _
+decodes_signed_once κs code readings info rate out scratch = both_once Scores scores_tell _ _ _ _ _

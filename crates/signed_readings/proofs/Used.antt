@@ -13,6 +13,7 @@ use Rattle.correlation.specs.Inner.{Prepares}
 use Rattle.correlation.proofs.Checks.{call_few}
 use Rattle.correlation.proofs.Used.{used_each}
 use Rattle.encoder.proofs.Selected.{chosen_narrow}
+use Rattle.refusal.specs.Answer.{accepted}
 use Rattle.signed_butterflies.specs.Held.{Byte}
 use Rattle.signed_butterflies.proofs.Words.{small_fits, back}
 use Rattle.signed_forward.specs.Inner.{UsedBytes}
@@ -39,5 +40,5 @@ pub sums_fit :
     254 * steps_of r.chosen.code info < 2147483648
 sums_fit ready none = omega (arith, call_few ready none, (chosen_narrow ready.chosen).narrow)
 
-pub scored_back : {r : ℤ} {m : Total} → total r ≡ m → nat_abs r < 2147483648 → to_z w32 (of_z w32 r) ≡ count_of m
-scored_back {r} {m} e small = back r (small_fits r small) ∙ ap count_of e
+pub scored_back : {r : ℤ} {m : Total} → total r ≡ m → nat_abs r < 2147483648 → accepted (to_z w32 (of_z w32 r)) ≡ accepted (count_of m)
+scored_back {r} {m} e small = ap accepted (back r (small_fits r small) ∙ ap count_of e)

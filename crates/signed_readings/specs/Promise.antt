@@ -3,21 +3,13 @@
 use Rattle.std.specs.Prelude.{List, ℕ, ℤ, length}
 use Rattle.correlation.specs.Promise as any
 use Rattle.correlation.specs.Whole.{exactly}
-use Rattle.refusal.specs.Answer.{Said, Marks}
+use Rattle.refusal.specs.Answer.{Said}
 use Rattle.refusal.specs.Lent.{Lent}
 use Rattle.signed_readings.specs.Said.{decode_said}
 
 -- `viterbi_decode_signed_with`: the word goes to `out`, the survivor numbers of all steps to `scratch`, by the decoder
 -- in whole numbers
-abbrev pub Decodes : (Said (Marks ℤ) → Type 0) → (code rate info : ℕ) → List ℤ → (out scratch : Lent ℕ) → Type 0
+abbrev pub Decodes : (Said ℤ → Type 0) → (code rate info : ℕ) → List ℤ → (out scratch : Lent ℕ) → Type 0
 Decodes Answers code rate info readings out scratch =
     any.Decodes exactly Answers (decode_said code rate info readings (length out.given) (length scratch.given))
     code rate info readings out scratch
-
--- the same of a call that also writes the two counts, heard and against, to `counts`
-abbrev pub DecodesCounted :
-    (Said (Marks ℤ) → Type 0) → (code rate info : ℕ) → List ℤ → (out scratch counts : Lent ℕ) → Type 0
-DecodesCounted Answers code rate info readings out scratch counts =
-    any.DecodesCounted exactly Answers
-    (decode_said code rate info readings (length out.given) (length scratch.given))
-    code rate info readings out scratch counts

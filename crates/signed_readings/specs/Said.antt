@@ -3,9 +3,9 @@ use Rattle.std.specs.Prelude.{Bool, not, List, ℕ, ℤ, pos, negsuc}
 use Rattle.std.specs.Int.Signed.{lt_z}
 use Rattle.best_path.specs.Path.{Total, none, total}
 use Rattle.correlation.specs.Decode as any
-use Rattle.correlation.specs.Said.{marks, answered}
+use Rattle.correlation.specs.Said.{answered}
 use Rattle.correlation.specs.Whole.{exactly}
-use Rattle.refusal.specs.Answer.{Said, Marks}
+use Rattle.refusal.specs.Answer.{Said}
 use Rattle.refusal.specs.Numbers.{bad_signed_byte}
 use Rattle.trellis.specs.declared.ConvCode.{ConvCode}
 use Rattle.trellis.specs.Choice.{code_of, pattern_of}
@@ -24,8 +24,8 @@ count_of (total z) = z
 abbrev pub score : ConvCode → Keep → List ℤ → (info : ℕ) → ℤ
 score code p readings info = count_of (any.score exactly code p readings info)
 
--- the refusals in their order, with 12 at the first used byte that is −128; then the score and the two counts
-abbrev pub decode_said : (code rate info : ℕ) → List ℤ → (room scratch : ℕ) → Said (Marks ℤ)
+-- the refusals in their order, with 12 at the first used byte that is −128; then the score
+abbrev pub decode_said : (code rate info : ℕ) → List ℤ → (room scratch : ℕ) → Said ℤ
 decode_said code rate info readings room scratch =
     answered bad_signed_byte is_reading code rate info readings room scratch
-    (marks exactly code rate info readings (score (code_of code) (pattern_of code rate) readings info))
+    (score (code_of code) (pattern_of code rate) readings info)

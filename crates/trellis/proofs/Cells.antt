@@ -68,7 +68,3 @@ ones-tapped taps (more {c} {cs} h r) =
 pub coded_parity : (taps : ℕ) {cs : List ℕ} → Bits cs → coded_bit taps cs ≡ parity_of taps (value cs)
 unfolding coded_bit parity_of
 coded_parity taps r = ap (λ (n : ℕ). n % 2) (sym (ones-tapped taps r))
-
-pub parity_bit : (taps w : ℕ) → parity_of taps w < 2
-unfolding parity_of
-parity_bit taps w = mod-lt (ones (bit_and w taps)) (lit< tt)

@@ -203,19 +203,3 @@ coding_beyond code h = sym (get_or-eq_default codings _ h)
 pub half_length : (t : ℕ) → coded_length half t ≡ 2 * t
 unfolding coded_length ones_of
 half_length t = rw (div-one t, mod-one t) (omega arith)
-
--- ---- rate 1/2 as the code holds it
-
-take-one : (row : List ℕ) → 1 ≤ length row → get_or row 0 0 ≡ 1 → take 1 row ≡ 1 ∷ []
-take-one [] room e = absurd (omega arith)
-take-one (x ∷ xs) room e = ap (λ (v : ℕ). v ∷ []) e
-
--- a pattern of one column that keeps both bits is that of rate 1/2
-pub half_held : (m : KeepPattern) → Rows m → m.period ≡ 1 → get_or m.row0 0 0 ≡ 1 → get_or m.row1 0 0 ≡ 1 → keep_of m ≡ half
-unfolding keep_of
-half_held m rows e f g =
-    rw e
-    (ap₂ keep_of_rows (take-one m.row0 (omega (arith, rows.room0)) f) (take-one m.row1 (omega (arith, rows.room1)) g))
-
-pub half_represented : Represented half
-half_represented = represented half refl

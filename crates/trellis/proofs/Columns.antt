@@ -1,8 +1,8 @@
 -- A keep pattern as the code holds it: what it keeps and how much, read off its rows. Assumes nothing.
 use mathlib.Core.List.{List}
 use mathlib.Core.Path.{◌≡◌, refl, sym, ap, ap₂, ◌∙◌}
-use Prim.Native.Nat.{ℕ, ◌+◌, ◌-◌, ◌*◌, ◌/◌, ◌%◌, ◌^◌, ◌≤◌, ◌<◌}
-use native.Mathlib.Nat.{le_trans, le_of_lt, mul-le-mul, div-le_self, mod-lt, mod-add-mod, add-mod_right}
+use Prim.Native.Nat.{ℕ, ◌+◌, ◌*◌, ◌/◌, ◌%◌, ◌^◌, ◌≤◌, ◌<◌}
+use native.Mathlib.Nat.{le_trans, le_of_lt, mul-le-mul, div-le_self, mod-lt, mod-add-mod}
 use native.Mathlib.Omega.{arith}
 use lib.Dec.{eqb}
 use lib.ListN.{length, get_or, take}
@@ -54,12 +54,6 @@ module _ (m : KeepPattern) (rows : Rows m) where
 -- a counter of columns that goes round is the step mod the period
 pub column_next : (n t column next : ℕ) → column ≡ t % n → next ≡ (column + 1) % n → next ≡ (t + 1) % n
 column_next n t column next e f = f ∙ ap (λ (k : ℕ). (k + 1) % n) e ∙ mod-add-mod t n 1
-
--- and one that goes back
-pub column_back : (n t column before : ℕ) → 0 < n → column ≡ (t + 1) % n → before ≡ (column + (n - 1)) % n → before ≡ t % n
-column_back n t column before some e f =
-    f ∙ ap (λ (k : ℕ). (k + (n - 1)) % n) e ∙ mod-add-mod (t + 1) n (n - 1)
-    ∙ ap (λ (k : ℕ). k % n) (omega arith) ∙ add-mod_right t n
 
 -- ---- counting the ones of a row
 

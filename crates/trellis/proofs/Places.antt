@@ -1,10 +1,12 @@
--- What a place reads, and what from a list that is cut off behind what is read. The default of a read, d, is not seen.
--- Assumes nothing.
+-- What a place reads: by the tests of a decoder's code, and from a list that is cut off behind what is read. The default of a
+-- read, d, is not seen. Assumes nothing.
 use mathlib.Core.Bool.{Bool, true, false}
 use mathlib.Core.List.{List, [], ◌∷◌}
-use mathlib.Core.Path.{◌≡◌, refl}
+use mathlib.Core.Path.{◌≡◌, refl, sym, ap, ◌∙◌}
 use Prim.Native.Nat.{ℕ, zero, suc, ◌+◌, ◌≤◌, ◌<◌}
 use native.Mathlib.Omega.{arith}
+use borrow.Author.Tests.{eq-eqb, ne_eqb}
+use lib.Dec.{eqb}
 use lib.ListN.{length, get_or, take}
 use Rattle.trellis.specs.Keep.{Keep, Pattern, keeps0, keeps1, coded_length}
 use Rattle.trellis.specs.Places.{received, missing, value_of, reading_at, filled, place0, place1}
@@ -38,6 +40,25 @@ reading_taken readings zero i h = absurd (omega (arith, h))
 reading_taken [] (suc n) i h = refl
 reading_taken (x ∷ xs) (suc n) zero h = refl
 reading_taken (x ∷ xs) (suc n) (suc i) h = reading_taken xs n i (omega arith)
+
+-- ---- what a place reads, by the tests of the code
+
+module _ {A : Type 0} (nought : A) (column : ℕ) (readings : List A) (at : ℕ) where
+  abbrev reads : Bool → A
+  reads kept = value_of nought (filled kept readings at)
+
+  pub reads_received : (d : A) → column ≡ 1 → at < length readings → get_or readings at d ≡ reads (eqb column 1)
+  reads_received d e h = sym (ap (value_of nought) (reading_received d readings at h)) ∙ ap reads (sym (eq-eqb column 1 e))
+
+  pub reads_missing : column ≡ 1 → length readings ≤ at → nought ≡ reads (eqb column 1)
+  reads_missing e h = sym (ap (value_of nought) (reading_missing readings at h)) ∙ ap reads (sym (eq-eqb column 1 e))
+
+  -- kept, it is received or missing
+  pub reads_kept : column ≡ 1 → get_or readings at nought ≡ reads (eqb column 1)
+  reads_kept e = sym (reading_value nought readings at) ∙ ap reads (sym (eq-eqb column 1 e))
+
+  pub reads_deleted : (column ≡ 1 → ⊥) → nought ≡ reads (eqb column 1)
+  reads_deleted e = ap reads (sym (ne_eqb column 1 e))
 
 -- ---- a step reads no further than the coded length of the steps up to it
 

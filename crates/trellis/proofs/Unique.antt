@@ -9,7 +9,6 @@ use lib.ListN.{length, get_or}
 use lib.Seq.{ext_get_or}
 use Rattle.trellis.specs.declared.ConvCode.{ConvCode}
 use Rattle.trellis.specs.declared.KeepPattern.{KeepPattern}
-use Rattle.trellis.specs.declared.Origin.{Origin}
 use Rattle.trellis.specs.declared.Pair.{Pair}
 use Rattle.trellis.specs.declared.Planes.{Planes}
 use Rattle.trellis.specs.declared.Selected.{Selected}
@@ -17,14 +16,11 @@ use Rattle.trellis.specs.Inner.{Blank}
 use Rattle.trellis.proofs.Even.{Filled}
 use Rattle.trellis.proofs.conv_code.Reads as conv_code
 use Rattle.trellis.proofs.choose.Reads as choose
-use Rattle.trellis.proofs.coded_pair.Reads as coded_pair
 use Rattle.trellis.proofs.branch_bits.Reads as branch_bits
 use Rattle.trellis.proofs.sent_by_even.Reads as sent_by_even
 use Rattle.trellis.proofs.next_state.Reads as next_state
 use Rattle.trellis.proofs.next_column.Reads as next_column
-use Rattle.trellis.proofs.column_before.Reads as column_before
 use Rattle.trellis.proofs.coded_len.Reads as coded_len
-use Rattle.trellis.proofs.origin_of.Reads as origin_of
 
 abbrev made : ℕ → ℕ → Pair
 made c0 c1 = record { c0 = c0; c1 = c1 }
@@ -39,10 +35,6 @@ selected code keep = record { code = code; keep = keep }
 pub choose_determined :
     (κs : _) (given : _) (r r' : Selected) (left left' : _) → choose.Post κs given r left → choose.Post κs given r' left' → r ≡ r'
 choose_determined κs given r r' left left' p q = ap₂ selected (p.taps ∙ sym q.taps) (p.rows ∙ sym q.rows)
-
-pub coded_pair-determined :
-    (κs : _) (given : _) (r r' : Pair) (left left' : _) → coded_pair.Post κs given r left → coded_pair.Post κs given r' left' → r ≡ r'
-coded_pair-determined κs given r r' left left' p q = ap₂ made (p.first ∙ sym q.first) (p.second ∙ sym q.second)
 
 pub branch_bits-determined :
     (κs : _) (given : _) (r r' : Pair) (left left' : _) → branch_bits.Post κs given r left → branch_bits.Post κs given r' left' → r ≡ r'
@@ -78,16 +70,6 @@ pub next_column-determined :
     (κs : _) (given : _) (r r' : ℕ) (left left' : _) → next_column.Post κs given r left → next_column.Post κs given r' left' → r ≡ r'
 next_column-determined κs given r r' left left' p q = p ∙ sym q
 
-pub column_before-determined :
-    (κs : _) (given : _) (r r' : ℕ) (left left' : _) →
-    column_before.Post κs given r left → column_before.Post κs given r' left' → r ≡ r'
-column_before-determined κs given r r' left left' p q = p ∙ sym q
-
 pub coded_len-determined :
     (κs : _) (given : _) (r r' : ℕ) (left left' : _) → coded_len.Post κs given r left → coded_len.Post κs given r' left' → r ≡ r'
 coded_len-determined κs given r r' left left' p q = p ∙ sym q
-
-pub origin_of-determined :
-    (κs : _) (given : _) (r r' : Origin) (left left' : _) →
-    origin_of.Post κs given r left → origin_of.Post κs given r' left' → r ≡ r'
-origin_of-determined κs given r r' left left' p q = p ∙ sym q

@@ -25,14 +25,10 @@ pub record Branch (code : ConvCode) (s b : ℕ) : Type 0 where
   pub state : s < 2 ^ code.width
   pub bit : b < 2
 
--- `coded_pair`: the coded bits of a window
-pub record Coded (code : ConvCode) (w : ℕ) (r : Pair) : Type 0 where
-  pub first : r.c0 ≡ parity_of code.g0 w
-  pub second : r.c1 ≡ parity_of code.g1 w
-
 -- `branch_bits`: the coded bits of a branch
-abbrev pub Branched : (code : ConvCode) (s b : ℕ) (r : Pair) → Type 0
-Branched code s b r = Coded code (window code s b) r
+pub record Branched (code : ConvCode) (s b : ℕ) (r : Pair) : Type 0 where
+  pub first : r.c0 ≡ parity_of code.g0 (window code s b)
+  pub second : r.c1 ≡ parity_of code.g1 (window code s b)
 
 -- tap words that reach from the register's oldest cell to the input, and no further: each has its lowest bit and its
 -- top bit set

@@ -1,7 +1,5 @@
 -- What each place of the trellis reads: readings, of any kind, fill the kept places in order. Definitions only.
-use Rattle.std.specs.Prelude.{Bool, cond, List, [], ◌∷◌, ℕ, zero, suc, ◌+◌, replicate}
-use Rattle.trellis.specs.declared.Origin.{Origin}
-use Rattle.trellis.specs.declared.Origin.TheVariants as origin
+use Rattle.std.specs.Prelude.{Bool, cond, List, [], ◌∷◌, ℕ, zero, suc, ◌+◌}
 use Rattle.trellis.specs.Keep.{Keep, keeps0, keeps1, coded_length}
 
 -- a place's reading was received, is missing, or was deleted
@@ -26,22 +24,6 @@ reading_at (x ∷ xs) (suc n) = reading_at xs n
 abbrev pub filled : {A : Type 0} → Bool → List A → ℕ → Place A
 filled kept readings n = cond kept (reading_at readings n) deleted
 
--- what a place is, without its reading
-abbrev pub origin_of : {A : Type 0} → Place A → Origin
-origin_of (received x) = origin.Received
-origin_of missing = origin.Missing
-origin_of deleted = origin.Deleted
-
--- the same of a kept or deleted place with that number, by how many readings there are, whatever they are
-abbrev pub origin_at : Bool → (at count : ℕ) → Origin
-origin_at kept at count = origin_of (filled {A = Unit} kept (replicate count tt) at)
-
--- 1 for a place that was received
-abbrev pub heard_at : {A : Type 0} → Place A → ℕ
-heard_at (received x) = 1
-heard_at missing = 0
-heard_at deleted = 0
-
 -- the places of step t
 unfoldable pub place0 : {A : Type 0} → Keep → List A → ℕ → Place A
 unfolding coded_length reading_at
@@ -50,9 +32,3 @@ place0 p readings t = filled (keeps0 p t) readings (coded_length p t)
 unfoldable pub place1 : {A : Type 0} → Keep → List A → ℕ → Place A
 unfolding coded_length reading_at
 place1 p readings t = filled (keeps1 p t) readings (coded_length p t + cond (keeps0 p t) 1 0)
-
--- how many places of the first t steps were received
-unfoldable pub heard_by : {A : Type 0} → Keep → List A → ℕ → ℕ
-unfolding place0 place1
-heard_by p readings zero = 0
-heard_by p readings (suc t) = heard_by p readings t + (heard_at (place0 p readings t) + heard_at (place1 p readings t))

@@ -1,12 +1,10 @@
-// One step of the shift register for any code, which coded bits a keep pattern keeps, the coded length, and what a
-// place of the trellis is.
-ghost use Rattle.std.specs.Prelude.{◌≡◌, ◌+◌, ◌-◌, ◌%◌, ◌<◌, ◌≤◌, eqb};
+// One step of the shift register for any code, which coded bits a keep pattern keeps, and the coded length.
+ghost use Rattle.std.specs.Prelude.{◌≡◌, ◌+◌, ◌%◌, ◌<◌, ◌≤◌};
 ghost use Rattle.trellis.specs.Choice.{pattern_in, code_of, held_of, keep_of};
 ghost use Rattle.trellis.specs.Choice as choice;
 ghost use Rattle.trellis.specs.Keep.{coded_length};
-ghost use Rattle.trellis.specs.Places.{origin_at};
 ghost use Rattle.trellis.specs.State.{window, parity_of, next_state};
-ghost use Rattle.trellis.specs.Inner.{Chooses, Coded, Branch, Branched, Halved, SendsEven, OnesIn, Measurable};
+ghost use Rattle.trellis.specs.Inner.{Chooses, Branch, Branched, Halved, SendsEven, OnesIn, Measurable};
 
 // A code: the register's width K - 1, and the tap words over the window of K bits, whose top bit
 // is the input.
@@ -50,7 +48,7 @@ pub struct KeepPattern {
 }
 
 // Rate 1/2, where both are kept.
-pub const HALF: KeepPattern = KeepPattern {
+const HALF: KeepPattern = KeepPattern {
     period: 1,
     row0: [1, 0, 0, 0, 0, 0, 0],
     row1: [1, 0, 0, 0, 0, 0, 0],
@@ -194,22 +192,16 @@ pub struct Pair {
     pub c1: u8,
 }
 
-// The coded bits of a window.
-pub fn coded_pair(code: ConvCode, w: u32) -> Pair
-    ensures { Coded code w result }
-{
-    Pair {
-        c0: parity(w, code.g0),
-        c1: parity(w, code.g1),
-    }
-}
-
 // The coded bits of the state s on the input b.
 pub fn branch_bits(code: ConvCode, s: u32, b: u32) -> Pair
     requires { Branch code s b }
     ensures { Branched code s b result }
 {
-    coded_pair(code, window_of(code, s, b))
+    let w = window_of(code, s, b);
+    Pair {
+        c0: parity(w, code.g0),
+        c1: parity(w, code.g1),
+    }
 }
 
 // For each even state 2n the coded bits that it sends on the input 0. By the tap words' end bits these
@@ -254,14 +246,6 @@ pub fn next_column(column: usize, period: usize) -> usize
     if next == period { 0 } else { next }
 }
 
-// The column of the step before one that uses this column.
-pub fn column_before(column: usize, period: usize) -> usize
-    requires { column < period }
-    ensures { result ≡ (column + (period - 1)) % period }
-{
-    if column == 0 { period - 1 } else { column - 1 }
-}
-
 // The ones in the first n columns of a row.
 fn ones_in(row: &[u8; 7], n: usize) -> usize
     requires { n ≤ 7 }
@@ -287,26 +271,4 @@ pub fn coded_len(keep: KeepPattern, steps: usize) -> usize
     let begun = steps % period;
     let all = ones_in(&row0, period) + ones_in(&row1, period);
     steps / period * all + (ones_in(&row0, begun) + ones_in(&row1, begun))
-}
-
-// What a place of the trellis is: its reading was received, or is missing, or its coded bit was deleted.
-#[derive(Drop)]
-pub enum Origin {
-    Received,
-    Missing,
-    Deleted,
-}
-
-// What a place is, by its column in a keep pattern, the number of its reading, and how many readings there are. A
-// received zero is received.
-pub fn origin_of(column: u8, at: usize, count: usize) -> Origin
-    ensures { result ≡ origin_at (eqb column 1) at count }
-{
-    if column == 1 {
-        if at < count {
-            return Origin::Received;
-        }
-        return Origin::Missing;
-    }
-    Origin::Deleted
 }

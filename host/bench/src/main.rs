@@ -3,7 +3,6 @@
 //! shortest to the longest is timed by itself.
 
 mod clock;
-mod counted;
 mod decoder;
 mod encoder;
 mod lookup;
@@ -22,7 +21,6 @@ fn main() {
     decoder::run();
     standard::run();
     signed::run();
-    counted::run();
     symbols::run();
     streaming::run();
     lookup::run();

@@ -19,12 +19,12 @@ pub fn run() {
         "each door by itself, rate 1/2: ns per call, least and median of {ROUNDS} rounds; buffers are lent, and not cleared \
          between calls"
     );
-    println!("{:<24} {:>6} {:>12} {:>12}", "entry", "info", "least", "median");
+    println!("{:<16} {:>6} {:>12} {:>12}", "entry", "info", "least", "median");
     for size in SIZES {
         plain(size);
     }
     for (name, code) in CODES {
-        for entry in [encoding, length, readings, signed_readings, counted, signed_counted] {
+        for entry in [encoding, length, readings, signed_readings] {
             for size in SIZES {
                 entry(name, code, size);
             }
@@ -36,7 +36,7 @@ fn row(name: &str, size: usize, mut call: impl FnMut() -> u64) {
     let times = times_alone(ROUNDS, || {
         black_box(call());
     });
-    println!("{name:<24} {size:>6} {:>12.1} {:>12.1}", times.least, times.median);
+    println!("{name:<16} {size:>6} {:>12.1} {:>12.1}", times.least, times.median);
 }
 
 fn plain(size: usize) {
@@ -81,31 +81,6 @@ fn signed_readings(name: &str, code: Code, size: usize) {
         doors::decode_signed(code as u8, RATE as u8, size, black_box(&list), &mut out, &mut scratch)
     });
     assert!(out == must.out, "decode_signed {name}, {size}: the words differ");
-}
-
-fn counted(name: &str, code: Code, size: usize) {
-    let bytes: Vec<u8> = heard(code, size).iter().flat_map(|x| x.to_le_bytes()).collect();
-    let (mut out, mut scratch, mut counts) = (vec![0; size], vec![0; scratch_len(code, size)], [0; 2]);
-    let must = decoder::decode(code as u8, RATE as u8, size, &bytes, &out, &scratch);
-    row(&format!("decode_counted {name}"), size, || {
-        let bytes = black_box(&bytes);
-        doors::decode_counted(code as u8, RATE as u8, size, bytes, &mut out, &mut scratch, &mut counts)
-    });
-    assert!(out == must.out, "decode_counted {name}, {size}: the words differ");
-}
-
-fn signed_counted(name: &str, code: Code, size: usize) {
-    let list: Vec<i8> = heard(code, size).into_iter().map(byte).collect();
-    let (mut out, mut scratch, mut counts) = (vec![0; size], vec![0; scratch_len(code, size)], [0; 2]);
-    let must = signed::decode(code as u8, RATE as u8, size, &list, &out, &scratch);
-    row(&format!("decode_signed_counted {name}"), size, || {
-        let list = black_box(&list);
-        doors::decode_signed_counted(code as u8, RATE as u8, size, list, &mut out, &mut scratch, &mut counts)
-    });
-    assert!(
-        out == must.out,
-        "decode_signed_counted {name}, {size}: the words differ"
-    );
 }
 
 /// A random codeword as it is received through noise.

@@ -3,11 +3,10 @@
 use expected::{After, Random};
 use std::fmt::LowerHex;
 
-/// A byte that no coded bit has, and a number that no call counts to.
+/// A byte that no coded bit has.
 const CANARY: u8 = 0xA5;
-pub const NO_COUNT: u32 = 0xA5A5_A5A5;
 
-/// So many elements on either side of the lent part no call may touch.
+/// Bytes on either side of the lent part that no call may touch.
 const GUARD: usize = 64;
 
 /// What the lent bytes are before a call.
@@ -31,29 +30,16 @@ pub fn filled(fill: Fill, len: usize, random: &mut Random) -> Vec<u8> {
 
 /// Lends a copy of `before`, between guards, to `call`; what came of it, or that a guard was touched.
 pub fn lend(before: &[u8], call: impl FnOnce(&mut [u8]) -> u64) -> Result<After, String> {
-    let (answer, out) = guarded(before, CANARY, call)?;
-    Ok(After { answer, out })
-}
-
-/// The same of counts: what the call gives, and the counts after it.
-pub fn lend_counts<A>(before: &[u32], call: impl FnOnce(&mut [u32]) -> A) -> Result<(A, Vec<u32>), String> {
-    guarded(before, NO_COUNT, call)
-}
-
-fn guarded<T, A>(before: &[T], guard: T, call: impl FnOnce(&mut [T]) -> A) -> Result<(A, Vec<T>), String>
-where
-    T: Copy + PartialEq,
-{
-    let mut room = vec![guard; before.len() + 2 * GUARD];
+    let mut room = vec![CANARY; before.len() + 2 * GUARD];
     let lent = GUARD..GUARD + before.len();
     room[lent.clone()].copy_from_slice(before);
     let answer = call(&mut room[lent.clone()]);
-    let after = room[lent.clone()].to_vec();
-    room[lent].fill(guard);
-    match room.iter().position(|element| *element != guard) {
-        None => Ok((answer, after)),
+    let out = room[lent.clone()].to_vec();
+    room[lent].fill(CANARY);
+    match room.iter().position(|byte| *byte != CANARY) {
+        None => Ok(After { answer, out }),
         Some(at) => Err(format!(
-            "  what lies outside the buffer was written, at {}",
+            "  a byte outside the buffer was written, at {}",
             at as isize - GUARD as isize
         )),
     }

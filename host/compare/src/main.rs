@@ -3,7 +3,6 @@
 //! the first case that differs; the last line counts the groups.
 
 mod answers;
-mod counts;
 mod damaged;
 mod decoder;
 mod encoder;
@@ -30,7 +29,7 @@ const FORMER_LIMIT: usize = 4096;
 /// What compares an area: it reports its groups, with random inputs of its own.
 type Area = fn(&mut Groups, &mut Random);
 
-const AREAS: [Area; 14] = [
+const AREAS: [Area; 13] = [
     encoder::run,
     decoder::run,
     varicode::run_words,
@@ -44,7 +43,6 @@ const AREAS: [Area; 14] = [
     varicode::pauses::run,
     varicode::pauses::run_texts,
     signed::run,
-    counts::run,
 ];
 
 /// The areas run side by side, and are reported in order. A new one comes last: the others keep their random inputs so.

@@ -1,12 +1,8 @@
 //! The relay program (tools/native program relay), held to 01 and the oracle: its whole output for an input.
 
-use crate::counts::damaged_list;
-use crate::decoder::accepted::list_lens;
-use crate::decoder::call::bytes;
 use crate::groups::{Groups, Outcome};
 use crate::lent::hex;
-use expected::encoder::coded_len;
-use expected::{CODES, RATES, Random, program};
+use expected::{Random, program};
 use std::io::{ErrorKind, Read, Write};
 use std::process::{Command, Stdio};
 
@@ -24,9 +20,6 @@ const INFO: [u16; 15] = [
 
 const RANDOM: usize = 400;
 
-/// Info counts of damaged codewords: words of no bits, and those whose counts have one to four digits.
-const DAMAGED: [u16; 5] = [0, 1, 20, 300, 999];
-
 pub fn run(groups: &mut Groups, random: &mut Random) {
     groups.report(
         &format!("relay, inputs of {LENGTHS:?} bytes"),
@@ -39,10 +32,6 @@ pub fn run(groups: &mut Groups, random: &mut Random) {
     groups.report(
         "relay, random readings, whole, fractional, huge, bad",
         each((0..RANDOM).map(|_| any(random)).collect::<Vec<_>>()),
-    );
-    groups.report(
-        &format!("relay, codewords damaged, cut short and with surplus, info {DAMAGED:?}"),
-        each(damaged(random)),
     );
 }
 
@@ -104,22 +93,6 @@ fn any(random: &mut Random) -> Vec<u8> {
         input.extend(reading.to_le_bytes());
     }
     input
-}
-
-fn damaged(random: &mut Random) -> Vec<Vec<u8>> {
-    let mut inputs = Vec::new();
-    for (code, _) in CODES {
-        for (rate, _) in RATES {
-            for info in DAMAGED {
-                let [low, high] = info.to_le_bytes();
-                for len in list_lens(coded_len(code, rate, info.into()) as usize) {
-                    let list = damaged_list(code, rate, info.into(), len, random);
-                    inputs.push([vec![code, rate, low, high], bytes(&list)].concat());
-                }
-            }
-        }
-    }
-    inputs
 }
 
 fn output_of(input: &[u8]) -> Result<Vec<u8>, String> {

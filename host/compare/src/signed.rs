@@ -1,7 +1,7 @@
 //! The block decoder of readings that are signed bytes: which groups are compared. Each case is held to the model and to
-//! the doors of f32s, which are given the same numbers.
+//! the door of f32s, which is given the same numbers.
 
-pub mod accepted;
+mod accepted;
 mod best;
 mod call;
 mod refused;
@@ -61,7 +61,7 @@ pub fn run(groups: &mut Groups, random: &mut Random) {
     }
     groups.report(
         &format!(
-            "decode_signed, against every word of 0 to {ALL_BITS} bits: the best, first among equals, its score and counts, and that it stays"
+            "decode_signed, against every word of 0 to {ALL_BITS} bits: the best, first among equals, its score, and that it stays"
         ),
         every_word(&best::SIGNED, random),
     );
@@ -70,7 +70,7 @@ pub fn run(groups: &mut Groups, random: &mut Random) {
         every_number(&[-1i8, 5, 127], random),
     );
     groups.report(
-        "decode_signed, every set of the faults 1 to 5 and 12, fault 4 of out, of too few counts and of both",
+        "decode_signed, every set of the faults 1 to 5 and 12",
         faults(&minus_128, random),
     );
 }

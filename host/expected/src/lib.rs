@@ -1,10 +1,8 @@
 //! What each door must answer and leave in its buffers. An accepted input's output is the oracle's; whether an
 //! input is accepted is decided here, from 01's table of refusal numbers with the limit of request 2026-06, and from
-//! nothing of the proved code. The reader for pauses, code number 2, the decoder of signed bytes and the counts of a
-//! block of readings, which the oracle does not have, are by the words of the requests 2026-01, 2026-04, 2026-05 and
-//! 2026-07.
+//! nothing of the proved code. The reader for pauses, code number 2 and the decoder of signed bytes, which the oracle does
+//! not have, are by the words of the requests 2026-01, 2026-04 and 2026-05.
 
-pub mod counts;
 pub mod decoder;
 pub mod encoder;
 pub mod program;

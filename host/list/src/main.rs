@@ -1,8 +1,8 @@
 //! Writes the stored lists into a folder: the calls to its file `stdin`, and to `stdout` what is expected of each, line by
 //! line. Accepted answers are the oracle's; refusals, and what comes of forged records, are by document 01. What the
 //! reader for pauses answers is by request 2026-01, the refusal of bytes of 128 and above by request 2026-03, what code
-//! number 2 gives by request 2026-04, what the decoder of signed bytes gives by request 2026-05, which calls bring too
-//! many info bits or symbols by request 2026-06, and what is counted of a block of readings by request 2026-07.
+//! number 2 gives by request 2026-04, what the decoder of signed bytes gives by request 2026-05, and which calls bring too
+//! many info bits or symbols by request 2026-06.
 
 mod stored;
 
@@ -52,6 +52,5 @@ fn stored() -> Stored {
     stored::decoder::add_standard(&mut list, random);
     stored::signed::add(&mut list, random);
     stored::limit::add(&mut list, random);
-    stored::counts::add(&mut list, random);
     list
 }

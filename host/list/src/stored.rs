@@ -1,6 +1,5 @@
 //! What is on the stored lists, one module for each area.
 
-pub mod counts;
 pub mod decoder;
 pub mod encoder;
 pub mod limit;

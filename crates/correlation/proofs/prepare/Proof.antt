@@ -4,7 +4,7 @@ use borrow.Author.Rules.{rules}
 use Rattle.encoder.proofs.Checks.{choice_few}
 use Rattle.encoder.proofs.Selected.{chosen_narrow}
 use Rattle.correlation.proofs.Checks.{refused_by_choice, refused_by_room, refused_by_scratch, none_refused}
-use Rattle.correlation.proofs.Selected.{same_rows, half_few, rows_few, chosen_measurable, coded_few, used_chosen}
+use Rattle.correlation.proofs.Selected.{same_rows, half_few, rows_few, chosen_usable, used_chosen}
 use Rattle.correlation.proofs.prepare.Statement.{statement}
 use Rattle.correlation.proofs.prepare.Tie as tie
 
@@ -20,7 +20,6 @@ returns c =
       decided = refused_by_choice decided.refused_choice.ensures _ _ c.if1.true;
       chosen = selected.choose.ensures;
       halved = halved.half_of_lem.ensures;
-      coded = λ none. absurd (c.if1.true none);
       used = λ none. absurd (c.if1.true none);
     }
 
@@ -34,7 +33,6 @@ returns-2 c =
       decided = refused_by_room decided.refused_choice.ensures _ _ passed.if1.left c.if2.true;
       chosen = selected.choose.ensures;
       halved = halved.half_of_lem.ensures;
-      coded = λ none. absurd (omega (arith, none));
       used = λ none. absurd (omega (arith, none));
     }
 
@@ -75,30 +73,19 @@ returns-3 c =
           (same_rows selected.choose.ensures halved.half_of_lem.ensures _) short.if3.taken;
       chosen = selected.choose.ensures;
       halved = halved.half_of_lem.ensures;
-      coded = λ none. absurd (omega (arith, none));
       used = λ none. absurd (omega (arith, none));
     }
 
-coded-len-requires : tie.Need-coded-len-requires
-coded-len-requires c κs =
-    let passed : tie.Else1 = search in
-    let decided : tie.After-refused-choice = search in
-    let selected : tie.After-choose = search in
-    chosen_measurable selected.choose.ensures _ (choice_few decided.refused_choice.ensures passed.if1.left)
-
 used-of-requires : tie.Need-used-of-requires
 used-of-requires c κs =
-    let measured : tie.After-coded-len = search in
     let passed : tie.Else1 = search in
     let decided : tie.After-refused-choice = search in
     let selected : tie.After-choose = search in
-    let few = choice_few decided.refused_choice.ensures passed.if1.left in
-    coded_few selected.choose.ensures _ measured.coded_len.ensures few
+    chosen_usable selected.choose.ensures _ (choice_few decided.refused_choice.ensures passed.if1.left)
 
 returns-4 : tie.Need-returns-4
 returns-4 c =
     let counted : tie.After-used-of = search in
-    let measured : tie.After-coded-len = search in
     let enough : tie.Else3 = search in
     let roomy : tie.Else2 = search in
     let passed : tie.Else1 = search in
@@ -111,12 +98,11 @@ returns-4 c =
           (same_rows selected.choose.ensures halved.half_of_lem.ensures _) enough.if3.left;
       chosen = selected.choose.ensures;
       halved = halved.half_of_lem.ensures;
-      coded = λ none. measured.coded_len.ensures;
-      used = λ none. used_chosen selected.choose.ensures _ measured.coded_len.ensures counted.used-of.ensures;
+      used = λ none. used_chosen selected.choose.ensures _ counted.used-of.ensures;
     }
 
 pub prepare-spec : {M : Type 1} → statement M
 prepare-spec =
     tie.close
-    (tie.spec (search rules) half-of-requires (search rules) returns returns-2 add-steps mul-if3 mul-if3-2 returns-3 coded-len-requires
-    used-of-requires returns-4)
+    (tie.spec (search rules) half-of-requires (search rules) returns returns-2 add-steps mul-if3 mul-if3-2 returns-3 used-of-requires
+    returns-4)

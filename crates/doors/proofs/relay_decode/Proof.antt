@@ -1,4 +1,4 @@
--- `doors::relay_decode`: the score of the decoder's answer as a number. Assumes nothing.
+-- `doors::relay_decode`: the decoder's answer as a number. Assumes nothing.
 use mathlib.Core.Path.{ap, ◌∙◌}
 use borrow.Author.Rules.{rules}
 use lib.Ieee.{Float}
@@ -9,8 +9,8 @@ use Rattle.doors.proofs.relay_decode.Tie as tie
 
 returns : tie.Need-returns
 returns c =
-    let called : tie.After-viterbi-score-bytes = search in
-    let decodes = called.viterbi_score_bytes.ensures in
+    let called : tie.After-viterbi-decode-bytes = search in
+    let decodes = called.viterbi_decode_bytes.ensures in
     record {
       answer = c.word_number.ensures ∙ ap (λ (s : Said Float). door_number (score_bits s)) decodes.answer;
       output = decodes.output;

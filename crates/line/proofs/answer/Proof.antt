@@ -21,8 +21,7 @@ returns c =
     let tested : tie.After-is-shaped = search in
     let start : tie.Start = search in
     let unshaped = sym tested.is-shaped.ensures ∙ not-true _ c.before.if1.true in
-    let said = unshaped_said start.args.input.now unshaped in
-    rw (output_refused start.args.input.now bad_input 0 said) c.refused-line.ensures
+    rw (output_refused start.args.input.now bad_input 0 (unshaped_said start.args.input.now unshaped)) c.refused-line.ensures
 
 -- the input is shaped
 module _ (c : tie.Else1) where
@@ -163,7 +162,7 @@ returns-4 c =
     let known : tie.After-known-told = search in
     let found : tie.After-decoded = search in
     let called : tie.After-viterbi-decode-bytes = search in
-    let (marks, is_IsWord) = found.decoded.given in
+    let (score, is_IsWord) = found.decoded.given in
     rw (word_output (call called) is_IsWord (left known) called.viterbi_decode_bytes.ensures.output) c.word_line.ensures
 
 pub answer-spec : {M : Type 1} → statement M

@@ -1,9 +1,8 @@
 -- `line::refused_line`: five texts, each behind the one before. Assumes nothing.
 use native.Mathlib.Omega.{arith}
 use borrow.Author.Rules.{rules}
-use Rattle.refusal.proofs.Pieces.{fronted_none, put_adds}
 use Rattle.text.proofs.Digits.{decimal_few}
-use Rattle.line.proofs.Written.{zeros, fronted_prints}
+use Rattle.line.proofs.Written.{five_texts}
 use Rattle.line.proofs.refused_line.Statement.{statement}
 use Rattle.line.proofs.refused_line.Tie as tie
 
@@ -34,11 +33,12 @@ returns c =
     let at : tie.After-put2 = search in
     let number : tie.After-put-decimal = search in
     let refused : tie.After-put = search in
-    let one = put_adds (fronted_none zeros) refused.put.ensures refused.put.kept.0 in
-    let two = put_adds one number.put_decimal.ensures number.put_decimal.kept.0 in
-    let three = put_adds two at.put2.ensures at.put2.kept.0 in
-    let four = put_adds three place.put-decimal2.ensures place.put-decimal2.kept.0 in
-    fronted_prints (put_adds four end.put3.ensures end.put3.kept.0)
+    five_texts
+    record { puts = refused.put.ensures; size = refused.put.kept.0 }
+    record { puts = number.put_decimal.ensures; size = number.put_decimal.kept.0 }
+    record { puts = at.put2.ensures; size = at.put2.kept.0 }
+    record { puts = place.put-decimal2.ensures; size = place.put-decimal2.kept.0 }
+    record { puts = end.put3.ensures; size = end.put3.kept.0 }
 
 pub refused-line-spec : {M : Type 1} → statement M
 refused-line-spec =

@@ -1,4 +1,4 @@
--- `radio::relay_decode_signed`: the score of the decoder's answer as a number. Assumes nothing.
+-- `radio::relay_decode_signed`: the decoder's answer as a number. Assumes nothing.
 use mathlib.Core.Path.{ap, ◌∙◌}
 use borrow.Author.Rules.{rules}
 use lib.IntN.{ℤ}
@@ -9,8 +9,8 @@ use Rattle.radio.proofs.relay_decode_signed.Tie as tie
 
 returns : tie.Need-returns
 returns c =
-    let called : tie.After-viterbi-score-signed = search in
-    let decodes = called.viterbi_score_signed.ensures in
+    let called : tie.After-viterbi-decode-signed-with = search in
+    let decodes = called.viterbi_decode_signed_with.ensures in
     record {
       answer = c.word_number.ensures ∙ ap (λ (s : Said ℤ). door_number (score_bits s)) decodes.answer;
       output = decodes.output;

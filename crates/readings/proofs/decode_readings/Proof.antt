@@ -4,10 +4,8 @@ use native.Mathlib.Omega.{arith}
 use borrow.Author.Rules.{rules}
 use Rattle.correlation.proofs.Answers.{not_prepared, bad_reading_lem, good_readings, finds_decodes}
 use Rattle.correlation.proofs.Checks.{call_decodable}
-use Rattle.correlation.proofs.Marks.{marks_found}
-use Rattle.correlation.proofs.Selected.{finds_selected, counted_selected}
+use Rattle.correlation.proofs.Selected.{finds_selected}
 use Rattle.correlation.proofs.Used.{used_within}
-use Rattle.forward.specs.Sums.{soft}
 use Rattle.refusal.specs.Answer.{accepted}
 use Rattle.refusal.proofs.Over.{both_refused}
 use Rattle.readings.proofs.Used.{used_finite}
@@ -56,7 +54,6 @@ decode-requires c κs =
     let ready = rw start.pre at prepared.prepare.ensures in
     record {
       shaped = call_decodable ready passed.if1.left refl refl;
-      long = ready.coded passed.if1.left;
       used = used_finite _ ready passed.if1.left examined.first_bad.ensures good.if2.left;
     }
 
@@ -69,19 +66,10 @@ returns-3 c =
     let prepared : tie.After-prepare = search in
     let start : tie.Start = search in
     let ready = rw start.pre at prepared.prepare.ensures in
-    let found = finds_selected ready.chosen ready.halved ran.decode.ensures.found in
+    let found = finds_selected ready.chosen ready.halved ran.decode.ensures in
     finds_decodes _ _ _ _ _
     (good_readings _ _ _ _ _ _ _ _ _ ready passed.if1.left examined.first_bad.ensures good.if2.left)
-    (ap accepted
-    (marks_found soft start.args.code start.args.rate start.args.info _ start.args.counting found.scored
-    (ready.used passed.if1.left) (counted_selected ready.chosen ran.decode.ensures.counted)))
-    found
-
-cast-heard : tie.Need-overflow-cast-heard
-cast-heard c =
-    let passed : tie.Else1 = search in
-    let prepared : tie.After-prepare = search in
-    omega (arith, (prepared.prepare.ensures.used passed.if1.left).few)
+    (ap accepted found.scored) found
 
 pub decode-readings-spec : {M : Type 1} → statement M
 decode-readings-spec =
@@ -89,4 +77,4 @@ decode-readings-spec =
     (tie.spec
     (search rules) (search rules) returns
     first-bad-requires cast-no-word (search rules) returns-2
-    decode-requires cast-heard (search rules) (search rules) returns-3)
+    decode-requires (search rules) (search rules) returns-3)

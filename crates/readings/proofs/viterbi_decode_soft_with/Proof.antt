@@ -3,10 +3,7 @@ use mathlib.Core.List.{append-nil}
 use mathlib.Core.Path.{sym, ap}
 use borrow.Author.Rules.{rules}
 use lib.ListN.{length}
-use Rattle.correlation.proofs.Marks.{all_promised}
-use Rattle.f32s.specs.Single.{finite, all_of_bytes}
-use Rattle.forward.specs.Sums.{soft}
-use Rattle.refusal.specs.Numbers.{bad_reading}
+use Rattle.f32s.specs.Single.{all_of_bytes}
 use Rattle.readings.proofs.viterbi_decode_soft_with.Statement.{statement}
 use Rattle.readings.proofs.viterbi_decode_soft_with.Tie as tie
 
@@ -21,8 +18,7 @@ unfolding all_of_bytes
 returns c =
     let decoded : tie.After-decode-readings = search in
     let start : tie.Start = search in
-    all_promised soft bad_reading finite start.args.code start.args.rate start.args.info start.args.readings.now _
-    (rw (append-nil start.args.readings.now) at decoded.decode-readings.ensures)
+    rw (append-nil start.args.readings.now) at decoded.decode-readings.ensures
 
 pub viterbi-decode-soft-with-spec : {M : Type 1} → statement M
 viterbi-decode-soft-with-spec = tie.close (tie.spec (search rules) decode-readings-requires (search rules) (search rules) returns)

@@ -1,15 +1,13 @@
-//! Demand 3 by trying every word: the word that the doors give has the best score, is the first among equals by the
-//! tie rule, carries that score and the counts of its codeword, and stays when readings move towards it. Codewords are
-//! the oracle's, and for number 2 those of the standard's sequences.
+//! Demand 3 by trying every word: the word that the door gives has the best score, is the first among equals by the
+//! tie rule, carries that score, and stays when readings move towards it. Codewords are the oracle's, and for number 2
+//! those of the standard's sequences.
 
-use super::call::{Call, Reading, bytes, same};
+use super::call::bytes;
 use crate::groups::Outcome;
-use crate::lent::NO_COUNT;
-use expected::counts::Counts;
 use expected::decoder::{survivors, width};
 use expected::encoder::{coded_len, encode};
 use expected::{CODES, RATES, Random};
-use relay_coder::Refusal;
+use relay_coder::{Refusal, doors};
 
 /// Every word up to this many bits is tried against the door's.
 pub const ALL_BITS: usize = 10;
@@ -24,30 +22,26 @@ struct Word {
     states: Vec<u32>,
 }
 
-/// A decoder whose doors are tried, on whole readings.
-pub struct Tried<R> {
+/// A door that is tried, on whole readings.
+pub struct Tried {
+    pub entry: &'static str,
     /// How large the readings of a list are at most.
     pub largest: fn(&mut Random) -> i32,
-    pub crossing: fn(&[i32]) -> Vec<R>,
-    /// The score by the answer's bits.
-    pub score: fn(u64) -> Result<f64, Refusal>,
+    /// The word and the score that the door gives, by code, rate, info count and readings.
+    pub door: fn(u8, u8, usize, &[i32]) -> Heard,
 }
 
-/// A word, its score, and what was counted.
-struct Decoded {
-    bits: Vec<u8>,
-    score: f64,
-    counts: Counts,
-}
+/// A word and its score, or the refusal of what should be accepted.
+pub type Heard = Result<(Vec<u8>, f64), Refusal>;
 
 /// The decoder of f32s.
-pub const FLOATS: Tried<u8> = Tried {
+pub const FLOATS: Tried = Tried {
+    entry: "decode",
     largest: |random| random.below(4) as i32,
-    crossing: floats,
-    score: |answer| relay_coder::score(answer).map(f64::from),
+    door: floats,
 };
 
-pub fn every_word<R: Reading>(tried: &Tried<R>, random: &mut Random) -> Outcome {
+pub fn every_word(tried: &Tried, random: &mut Random) -> Outcome {
     let mut cases = 0;
     for (code, _) in CODES {
         for (rate, _) in RATES {
@@ -56,9 +50,9 @@ pub fn every_word<R: Reading>(tried: &Tried<R>, random: &mut Random) -> Outcome 
                 for _ in 0..LISTS {
                     let most = (tried.largest)(random);
                     let readings = readings(most, coded_len(code, rate, info) as usize, random);
-                    let doors = |readings: &[i32]| tried.decoded(code, rate, info, readings);
-                    compare(doors, &words, &readings, random).map_err(|why| {
-                        let entry = R::ENTRY;
+                    let door = |readings: &[i32]| (tried.door)(code, rate, info, readings);
+                    compare(door, &words, &readings, random).map_err(|why| {
+                        let entry = tried.entry;
                         format!("  {entry} code {code} rate {rate} info {info}, readings {readings:?}\n  {why}")
                     })?;
                     cases += 1;
@@ -124,58 +118,26 @@ fn best<'a>(words: &'a [Word], readings: &[i32]) -> &'a Word {
         .expect("there is a word")
 }
 
-impl<R: Reading> Tried<R> {
-    /// What both doors give, that which counts the same as the other, for what should be accepted.
-    fn decoded(&self, code: u8, rate: u8, info: usize, readings: &[i32]) -> Result<Decoded, String> {
-        let readings = &(self.crossing)(readings);
-        let call = Call {
-            code,
-            rate,
-            info,
-            readings,
-        };
-        let (out, scratch) = (vec![0; info], vec![0; survivors(code, info)]);
-        let after = call.after(&out, &scratch)?;
-        let (counted, counts) = call.after_counted(&out, &scratch, &[NO_COUNT; 2])?;
-        same(&after, &counted)?;
-        let score = (self.score)(after.answer).map_err(|refusal| refusal.to_string())?;
-        Ok(Decoded {
-            bits: after.out,
-            score,
-            counts: Counts {
-                heard: counts[0],
-                against: counts[1],
-            },
-        })
-    }
-}
-
 fn compare(
-    doors: impl Fn(&[i32]) -> Result<Decoded, String>,
+    door: impl Fn(&[i32]) -> Heard,
     words: &[Word],
     readings: &[i32],
     random: &mut Random,
 ) -> Result<(), String> {
     let best = best(words, readings);
-    let got = doors(readings)?;
-    if got.bits != best.bits {
-        return Err(format!(
-            "the best word is {:?}, the doors give {:?}",
-            best.bits, got.bits
-        ));
+    let door = |readings: &[i32]| door(readings).map_err(|refusal| refusal.to_string());
+    let (bits, got) = door(readings)?;
+    if bits != best.bits {
+        return Err(format!("the best word is {:?}, the door gives {bits:?}", best.bits));
     }
     let must = f64::from(score(best, readings));
-    if got.score != must {
-        return Err(format!("its score is {must}, the doors say {}", got.score));
-    }
-    let must = Counts::of(&best.sent, readings);
-    if got.counts != must {
-        return Err(format!("its counts are {must:?}, the door says {:?}", got.counts));
+    if got != must {
+        return Err(format!("its score is {must}, the door says {got}"));
     }
     let moved = towards(best, readings, random);
-    let got = doors(&moved)?;
-    if got.bits != best.bits {
-        return Err(format!("moved towards {:?}, {moved:?} give {:?}", best.bits, got.bits));
+    let (bits, _) = door(&moved)?;
+    if bits != best.bits {
+        return Err(format!("moved towards {:?}, {moved:?} give {bits:?}", best.bits));
     }
     Ok(())
 }
@@ -194,7 +156,7 @@ fn towards(word: &Word, readings: &[i32], random: &mut Random) -> Vec<i32> {
 }
 
 /// A zero reading is of either sign.
-fn floats(readings: &[i32]) -> Vec<u8> {
+fn floats(code: u8, rate: u8, info: usize, readings: &[i32]) -> Heard {
     let list: Vec<f32> = readings
         .iter()
         .enumerate()
@@ -206,5 +168,8 @@ fn floats(readings: &[i32]) -> Vec<u8> {
             }
         })
         .collect();
-    bytes(&list)
+    let (mut out, mut scratch) = (vec![0; info], vec![0; survivors(code, info)]);
+    let answer = doors::decode(code, rate, info, &bytes(&list), &mut out, &mut scratch);
+    let score = relay_coder::score(answer)?;
+    Ok((out, f64::from(score)))
 }

@@ -93,7 +93,7 @@ pub fn last_of_longest<R: Reading>(code: u8, rate: u8, of_readings: &Fault<R>, r
 }
 
 /// Every set of the faults 1 to 5 and one of the readings, which has the place of 6 in a set; the lowest number of the
-/// set must come, and no byte may change. At the door that counts, too few counts are a fault 4 as well.
+/// set must come, and no byte may change.
 pub fn faults<R: Reading>(of_readings: &Fault<R>, random: &mut Random) -> Outcome {
     let mut cases = 0;
     for faults in 1..64 {
@@ -135,28 +135,18 @@ fn faulty<R: Reading>(
     };
     for fill in FILLS {
         let (out, scratch) = (filled(fill, room, random), filled(fill, space, random));
-        let call = Call {
+        let must = AfterBlock {
+            answer: refused(number),
+            out: out.clone(),
+            scratch: scratch.clone(),
+        };
+        Call {
             code,
             rate,
             info,
             readings,
-        };
-        call.expect(&out, &scratch, &unchanged(number, &out, &scratch))?;
-        if has(faults, 4) {
-            let enough = filled(fill, need, random);
-            for (out, counts) in [(&out, 0), (&out, 1), (&enough, 0), (&enough, 1)] {
-                call.expect_counted(out, &scratch, counts, &unchanged(number, out, &scratch))?;
-            }
         }
+        .expect(&out, &scratch, &must)?;
     }
     Ok(2)
-}
-
-/// What a refusal with place 0 leaves.
-fn unchanged(number: u64, out: &[u8], scratch: &[u8]) -> AfterBlock {
-    AfterBlock {
-        answer: refused(number),
-        out: out.to_vec(),
-        scratch: scratch.to_vec(),
-    }
 }

@@ -15,9 +15,7 @@ pub fn add(list: &mut Stored, random: &mut Random) {
     list.comment(
         "b: block decode. Code, rate, info count, the readings' bytes, lengths of out and scratch; the answer, both",
     );
-    list.comment(
-        "after the call; where it is accepted, how many places were heard and how many were against the word.",
-    );
+    list.comment("after the call.");
     bench_sheet(list);
     each_rate(list, 0, random);
     each_rate(list, 1, random);

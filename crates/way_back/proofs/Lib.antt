@@ -1,2 +1,0 @@
--- Unique: the contract allows one outcome at most.
-pub mod Unique

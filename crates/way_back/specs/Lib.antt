@@ -1,2 +1,0 @@
--- Inner: what the functions ask and ensure.
-pub mod Inner
