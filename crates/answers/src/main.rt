@@ -4,6 +4,8 @@
 // A line is a call: a letter for the entry, then fields that one space parts. The answer's line has the letter
 // again and the answer's fields. A line that is empty or begins with '#' has an empty line for its answer. One that
 // is no call is answered by `no call`, and one that is longer than the room for it by `too long`.
+#![tactic(auto)]
+
 ghost use Rattle.std.specs.Prelude.{◌≤◌, ◌<◌, length};
 
 mod blocks;

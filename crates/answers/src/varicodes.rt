@@ -32,7 +32,7 @@ fn lookup(value: u16, len: u8) {
 }
 
 // A writer and a reader, of which a line's steps use one.
-#[derive(Drop)]
+#[derive(Clone, Copy)]
 struct Coders {
     encoder: VaricodeEncoder,
     decoder: VaricodeDecoder,
@@ -135,7 +135,7 @@ fn step(coders: Coders, text: &[u8]) -> Coders {
 }
 
 // What one call answers, as a number, and the writer and the reader after it.
-#[derive(Drop)]
+#[derive(Clone, Copy)]
 struct Called {
     answer: u64,
     coders: Coders,

@@ -1,5 +1,7 @@
 // Functions for the bench and the comparison alone: document 01 gives these entries no door. Each answer is
 // one u64, as a door's.
+#![tactic(auto)]
+
 ghost use Rattle.std.specs.Prelude.{◌≡◌, ◌<◌, length};
 ghost use Rattle.refusal.specs.Answer.{Counts, Numbers};
 ghost use Rattle.refusal.specs.Lent.{lent};

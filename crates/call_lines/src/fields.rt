@@ -121,7 +121,7 @@ fn lesser(a: usize, b: usize) -> usize
 
 // How far a text of bytes is read: up to the digit at `at` it has `count` bytes. The last piece begins at byte `piece`,
 // and is not closed yet where `open` says so.
-#[derive(Drop)]
+#[derive(Clone, Copy)]
 struct Read {
     at: usize,
     count: usize,

@@ -1,6 +1,8 @@
 // What the decoders of readings share, over any arithmetic and metric: what a branch brings, the metrics, the
 // survivors, the word and the score, what is answered, and the laws of all that. The code here is what is the same for
 // every kind of reading; the decoders themselves have crates of their own.
+#![tactic(auto)]
+
 ghost use Rattle.std.specs.Prelude.{cond, ◌≡◌, ◌+◌, ◌-◌, ◌^◌, ◌<◌, eqb};
 ghost use Rattle.trellis.specs.Choice.{keep_of};
 ghost use Rattle.trellis.specs.Inner.{Narrow};
@@ -37,7 +39,7 @@ pub fn after(column: u8, at: usize) -> usize
 
 // What a call comes to before its readings are looked at: the number of a refusal, or 0; the coding that it selects,
 // half of the states, and how many of the readings are used.
-#[derive(Drop)]
+#[derive(Clone, Copy)]
 pub struct Prepared {
     pub number: u8,
     pub chosen: Selected,

@@ -1,5 +1,7 @@
 // The functions for a host in Rust or C, on numbers and byte slices. Each returns one u64: the count
 // or the score's 32 bits, or on a refusal its number times 2^32 plus the place.
+#![tactic(auto)]
+
 ghost use Rattle.f32_answers.specs.Answer.{ScoreNumbers};
 ghost use Rattle.refusal.specs.Answer.{Numbers};
 ghost use Rattle.refusal.specs.Lent.{lent};

@@ -1,4 +1,6 @@
 // The encoders and the coded length: K5 or K7, with a zero tail and punctured, and plain K5.
+#![tactic(auto)]
+
 ghost use Rattle.std.specs.Prelude.{◌≡◌, get_or};
 ghost use Rattle.refusal.specs.Answer.{Counts};
 ghost use Rattle.refusal.specs.Lent.{lent, RoomFor, PutsAt};

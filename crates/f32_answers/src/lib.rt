@@ -1,4 +1,6 @@
 // Answers that carry an f32, and the place of refusals 6 and 7, which are about f32s.
+#![tactic(auto)]
+
 ghost use Rattle.std.specs.Prelude.{◌≡◌, ◌≤◌, length, take};
 ghost use Rattle.f32s.specs.Single.{finite, within, values_in, values_lent};
 ghost use Rattle.refusal.specs.First.{first_bad};
@@ -8,7 +10,7 @@ use refusal::Refusal;
 
 // The answer of the block decoder of readings: the word stands in the lent output, and its score is
 // carried here; or a refusal.
-#[derive(Drop)]
+#[derive(Clone, Copy)]
 pub enum Decoded {
     Word(f32),
     Refused(Refusal),

@@ -1,4 +1,6 @@
 // All steps of the block decoder of readings, from state 0: add, compare, select, with the survivors of each kept.
+#![tactic(auto)]
+
 ghost use Rattle.std.specs.Prelude.{◌≡◌, ◌*◌, eqb};
 ghost use Rattle.correlation.specs.Inner.{Steppable, SteppableOf};
 ghost use Rattle.f32s.specs.Single.{values_in, values_lent};

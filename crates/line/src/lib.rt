@@ -1,4 +1,6 @@
 // The relay program's answer: from the bytes of its input to those of its output.
+#![tactic(auto)]
+
 ghost use Rattle.std.specs.Prelude.{[], ◌≡◌, ◌+◌, ◌≤◌, length, replicate};
 ghost use Rattle.refusal.specs.Answer.{accepted};
 ghost use Rattle.line.specs.Line.{most_bytes, most_info, shaped};
@@ -24,7 +26,7 @@ const SURVIVORS: usize = (MOST_INFO + trellis::WIDEST) * trellis::MOST_STATES;
 const LINE_BYTES: usize = MOST_INFO + 24;
 
 // A line stands at the front of its bytes, and zeros behind it.
-#[derive(Drop)]
+#[derive(Clone, Copy)]
 pub struct Line {
     pub bytes: [u8; LINE_BYTES],
     pub count: usize,

@@ -1,5 +1,7 @@
 // Two queues in arrays with a head and a count, by value: 256 bits, and 64 characters. Room that is freed
 // by taking out is used again, round the array's end.
+#![tactic(auto)]
+
 ghost use Rattle.std.specs.Prelude.{◌≡◌, replicate};
 ghost use Rattle.binary.specs.Digits.{digits};
 ghost use Rattle.queue.specs.Ring.{bit_room, char_room, empty, read_as, put_one, put_all, front, rest};
@@ -10,14 +12,14 @@ pub const BITS: usize = 256;
 
 pub const CHARS: usize = 64;
 
-#[derive(Drop)]
+#[derive(Clone, Copy)]
 pub struct BitQueue {
     pub slots: [u8; BITS],
     pub head: usize,
     pub count: usize,
 }
 
-#[derive(Drop)]
+#[derive(Clone, Copy)]
 pub struct CharQueue {
     pub slots: [u8; CHARS],
     pub head: usize,
@@ -25,7 +27,7 @@ pub struct CharQueue {
 }
 
 // What is taken out of a queue: a bit or a character, or nothing where it is empty.
-#[derive(Drop)]
+#[derive(Clone, Copy)]
 pub enum Taken {
     One(u8),
     Nothing,

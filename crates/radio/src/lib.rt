@@ -1,4 +1,6 @@
 // The door for a radio without a float unit, on numbers and slices of bytes. It stands on nothing that has a float.
+#![tactic(auto)]
+
 ghost use Rattle.refusal.specs.Lent.{lent};
 ghost use Rattle.signed_answers.specs.Answer.{ScoreNumbers};
 ghost use Rattle.signed_readings.specs.Promise.{Decodes};

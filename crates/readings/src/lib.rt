@@ -1,4 +1,6 @@
 // The block decoder of readings: what it refuses, and which code and keep pattern it runs.
+#![tactic(auto)]
+
 ghost use Rattle.std.specs.Prelude.{◌≡◌, ◌*◌, length};
 ghost use Rattle.f32_answers.specs.Answer.{Scores, word_said};
 ghost use Rattle.f32s.specs.Single.{values_in, values_lent};

@@ -1,5 +1,7 @@
 // What an entry answers: its value, or a refusal with document 01's number and a place. Nothing of it has a float;
 // answers with a score in f32 are in crate `f32_answers`.
+#![tactic(auto)]
+
 ghost use Rattle.std.specs.Prelude.{◌≡◌};
 ghost use Rattle.refusal.specs.Answer.{count_said, done_said, refused, Counts, Numbers};
 
@@ -46,21 +48,21 @@ pub const BAD_SIGNED_BYTE: u8 = 12;
 
 // A refusal: one of these numbers, and the index of the first bad value where it is BAD_READING, BAD_COMPONENT or
 // BAD_SIGNED_BYTE, else 0.
-#[derive(Drop)]
+#[derive(Clone, Copy)]
 pub struct Refusal {
     pub number: u8,
     pub place: u32,
 }
 
 // The answer of an entry that writes a list or measures one: how many elements, or a refusal.
-#[derive(Drop)]
+#[derive(Clone, Copy)]
 pub enum Counted {
     Count(usize),
     Refused(Refusal),
 }
 
 // The answer of a call that only changes a state: it is done, or a refusal.
-#[derive(Drop)]
+#[derive(Clone, Copy)]
 pub enum Put {
     Done,
     Refused(Refusal),

@@ -1,4 +1,6 @@
 // The relay program: reads its input, calls, and writes the answer's line.
+#![tactic(auto)]
+
 use libc::{STDIN_FILENO, STDOUT_FILENO};
 
 fn main() {

@@ -1,4 +1,6 @@
 // Answers that carry a score in whole numbers of 32 bits.
+#![tactic(auto)]
+
 ghost use Rattle.std.specs.Prelude.{◌≡◌};
 ghost use Rattle.signed_answers.specs.Answer.{word_said, twos_complement, ScoreNumbers};
 
@@ -6,7 +8,7 @@ use refusal::Refusal;
 
 // The answer of the block decoder of signed bytes: the word stands in the lent output, and its score is
 // carried here; or a refusal.
-#[derive(Drop)]
+#[derive(Clone, Copy)]
 pub enum Decoded {
     Word(i32),
     Refused(Refusal),

@@ -1,4 +1,6 @@
 // What two states lead to on either input, compared as whole sums of 32 bits.
+#![tactic(auto)]
+
 ghost use Rattle.std.specs.Prelude.{cond, ◌≡◌, ◌+◌, ◌<◌};
 ghost use Rattle.std.specs.Int.Signed.{lt_z};
 ghost use Rattle.signed_butterflies.specs.Held.{Byte, side, BestOf, Summable, Summed, Turnable, Turned};
@@ -8,14 +10,14 @@ ghost use Rattle.signed_butterflies.specs.Held.{Byte, side, BestOf, Summable, Su
 const FLOOR: i32 = -536870912;
 
 // The best way into a state so far: its metric, and the state that it comes from.
-#[derive(Drop)]
+#[derive(Clone, Copy)]
 pub struct NewState {
     pub met: i32,
     pub from: u8,
 }
 
 // What two states lead to: the new state on the input 0, and on the input 1.
-#[derive(Drop)]
+#[derive(Clone, Copy)]
 pub struct Wing {
     pub low: NewState,
     pub high: NewState,

@@ -1,4 +1,6 @@
 // All steps of the block decoder of signed bytes, from state 0: add, compare, select, with the survivors of each kept.
+#![tactic(auto)]
+
 ghost use Rattle.std.specs.Prelude.{◌≡◌, ◌*◌, eqb, pos};
 ghost use Rattle.refusal.specs.Lent.{lent};
 ghost use Rattle.trellis.specs.Choice.{keep_of};

@@ -1,5 +1,7 @@
 // The block decoder of readings that are signed bytes, from −127 to 127, in whole numbers of 32 bits: what it refuses,
 // and which code and keep pattern it runs. Nothing of it has a float, nor what it stands on.
+#![tactic(auto)]
+
 ghost use Rattle.std.specs.Prelude.{◌≡◌, ◌*◌};
 ghost use Rattle.refusal.specs.Answer.{refused};
 ghost use Rattle.refusal.specs.Lent.{lent};

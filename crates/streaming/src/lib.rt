@@ -1,4 +1,6 @@
 // The streaming decoder: symbol by symbol, each bit 32 symbols late. By value, and in place.
+#![tactic(auto)]
+
 ghost use Rattle.std.specs.Prelude.{◌≡◌, suc, ◌+◌, ◌%◌, min};
 ghost use Rattle.refusal.specs.Answer.{Counts};
 ghost use Rattle.refusal.specs.Lent.{lent};
@@ -25,14 +27,14 @@ const COUNTS: u8 = (LAG + 2) as u8;
 
 // The state: the front, and 128 rows of 16 survivors.
 #[repr(C)]
-#[derive(Drop)]
+#[derive(Clone, Copy)]
 pub struct StreamingViterbi {
     pub front: Front,
     pub history: [u8; 2048],
 }
 
 // What a symbol gives: a bit, or nothing yet; or a refusal.
-#[derive(Drop)]
+#[derive(Clone, Copy)]
 pub enum Emitted {
     Bit(u8),
     Nothing,
@@ -40,28 +42,28 @@ pub enum Emitted {
 }
 
 // A symbol's answer, and the decoder after it.
-#[derive(Drop)]
+#[derive(Clone, Copy)]
 pub struct Fed {
     pub answer: Emitted,
     pub decoder: StreamingViterbi,
 }
 
 // The same where the history is lent.
-#[derive(Drop)]
+#[derive(Clone, Copy)]
 pub struct FedLent {
     pub answer: Emitted,
     pub front: Front,
 }
 
 // A flush's answer, and the decoder after it.
-#[derive(Drop)]
+#[derive(Clone, Copy)]
 pub struct Flushed {
     pub answer: Counted,
     pub decoder: StreamingViterbi,
 }
 
 // The same where the history is lent.
-#[derive(Drop)]
+#[derive(Clone, Copy)]
 pub struct FlushedLent {
     pub answer: Counted,
     pub front: Front,

@@ -1,4 +1,6 @@
 // What one symbol does to the streaming decoder's metrics and history.
+#![tactic(auto)]
+
 pub mod history;
 pub mod metrics;
 mod sent;
@@ -8,7 +10,7 @@ pub const LAG: usize = 32;
 
 // The metrics; the symbols so far, up to one more than the lag; and the symbols so far mod 256.
 #[repr(C)]
-#[derive(Drop)]
+#[derive(Clone, Copy)]
 pub struct Front {
     pub pm: [f32; 16],
     pub count: u8,

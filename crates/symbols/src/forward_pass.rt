@@ -68,7 +68,7 @@ fn compared(m: f32, state: u8) -> f32
 }
 
 // A state, and its metric as it is compared.
-#[derive(Drop)]
+#[derive(Clone, Copy)]
 struct Placed {
     met: f32,
     state: u8,

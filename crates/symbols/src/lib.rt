@@ -1,4 +1,6 @@
 // The block decoders of symbols, soft and hard: K5, each symbol two coded bits as a phasor.
+#![tactic(auto)]
+
 ghost use Rattle.std.specs.Prelude.{◌≡◌};
 ghost use Rattle.refusal.specs.Answer.{Counts};
 ghost use Rattle.refusal.specs.Lent.{lent};

@@ -4,7 +4,7 @@ ghost use Rattle.symbols.specs.Costs.{cost, phasor_of};
 ghost use Rattle.symbols.specs.Inner.{Priced, pair_cost};
 
 // A point of the constellation.
-#[derive(Drop)]
+#[derive(Clone, Copy)]
 pub struct Phasor {
     pub re: f32,
     pub im: f32,
@@ -40,7 +40,7 @@ fn cost(re: f32, im: f32, at: Phasor) -> f32
 }
 
 // What a symbol costs at each phasor, by the coded pair.
-#[derive(Drop)]
+#[derive(Clone, Copy)]
 pub struct Prices {
     pub of_00: f32,
     pub of_01: f32,

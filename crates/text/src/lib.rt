@@ -1,5 +1,7 @@
 // Writing to a line: texts, words and numbers, one behind the other. Each function writes at `at` and
 // answers the place behind what it wrote.
+#![tactic(auto)]
+
 ghost use Rattle.std.specs.Prelude.{◌≡◌, ◌<◌};
 ghost use Rattle.refusal.specs.Lent.{lent, RoomFor, PutsAt};
 ghost use Rattle.text.specs.Text.{bit_text, word_text, hex_digits, decimal};

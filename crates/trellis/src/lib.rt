@@ -1,4 +1,6 @@
 // One step of the shift register for any code, which coded bits a keep pattern keeps, and the coded length.
+#![tactic(auto)]
+
 ghost use Rattle.std.specs.Prelude.{◌≡◌, ◌+◌, ◌%◌, ◌<◌, ◌≤◌};
 ghost use Rattle.trellis.specs.Choice.{pattern_in, code_of, held_of, keep_of};
 ghost use Rattle.trellis.specs.Choice as choice;
@@ -8,7 +10,7 @@ ghost use Rattle.trellis.specs.Inner.{Chooses, Branch, Branched, Halved, SendsEv
 
 // A code: the register's width K - 1, and the tap words over the window of K bits, whose top bit
 // is the input.
-#[derive(Drop)]
+#[derive(Clone, Copy)]
 pub struct ConvCode {
     pub width: usize,
     pub g0: u32,
@@ -40,7 +42,7 @@ const K7: ConvCode = ConvCode {
 };
 
 // A keep pattern: G0's row and G1's, of which the first `period` columns count.
-#[derive(Drop)]
+#[derive(Clone, Copy)]
 pub struct KeepPattern {
     pub period: usize,
     pub row0: [u8; 7],
@@ -133,7 +135,7 @@ fn standard(rate: u8) -> KeepPattern
 }
 
 // What a code number and a rate number select together.
-#[derive(Drop)]
+#[derive(Clone, Copy)]
 pub struct Selected {
     pub code: ConvCode,
     pub keep: KeepPattern,
@@ -186,7 +188,7 @@ fn window_of(code: ConvCode, s: u32, b: u32) -> u32
 }
 
 // A coded pair, G0's bit first.
-#[derive(Drop)]
+#[derive(Clone, Copy)]
 pub struct Pair {
     pub c0: u8,
     pub c1: u8,
@@ -207,7 +209,7 @@ pub fn branch_bits(code: ConvCode, s: u32, b: u32) -> Pair
 // For each even state 2n the coded bits that it sends on the input 0. By the tap words' end bits these
 // tell the others: the state 2n + 1 sends the opposite pair on the same input, and so does 2n on the
 // input 1.
-#[derive(Drop)]
+#[derive(Clone, Copy)]
 pub struct Planes {
     pub c0: [u32; 32],
     pub c1: [u32; 32],

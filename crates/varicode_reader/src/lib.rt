@@ -1,5 +1,7 @@
 // The Varicode reader: bits to characters. There are two, chosen when one is made, and they differ in which zeros end
 // a word.
+#![tactic(auto)]
+
 ghost use Rattle.std.specs.Prelude.{true, false, ◌≡◌, ◌+◌, ◌-◌, min, ◌≤◌};
 ghost use Rattle.varicode_reader.specs.Reader.{fresh_reader, zero_ends, read_heard};
 ghost use Rattle.varicode_reader.specs.Records.{reader};
@@ -12,7 +14,7 @@ use varicode_words::Letter;
 
 // The reader: whether it is for pauses, the bits of the word that it is in, how many, whether the last was a zero,
 // and the characters that are not taken out yet.
-#[derive(Drop)]
+#[derive(Clone, Copy)]
 pub struct VaricodeDecoder {
     pub pauses: bool,
     pub shift: u16,
@@ -22,13 +24,13 @@ pub struct VaricodeDecoder {
 }
 
 // A bit that was pushed: its answer, and the reader after it.
-#[derive(Drop)]
+#[derive(Clone, Copy)]
 pub struct Pushed {
     pub answer: Put,
     pub decoder: VaricodeDecoder,
 }
 
-#[derive(Drop)]
+#[derive(Clone, Copy)]
 pub struct NextChar {
     pub answer: Taken,
     pub decoder: VaricodeDecoder,

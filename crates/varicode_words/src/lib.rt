@@ -1,18 +1,20 @@
 // Varicode: the word of each byte, and the byte of each word, by Martinez's table of 1998.
+#![tactic(auto)]
+
 ghost use Rattle.std.specs.Prelude.{◌≡◌, ◌<◌};
 ghost use Rattle.varicode_words.specs.Word.{Spells, length_of, letter_said, decode_of};
 
 mod bytes;
 
 // A word: its bits, the last one lowest, and how many there are.
-#[derive(Drop)]
+#[derive(Clone, Copy)]
 pub struct Word {
     pub bits: u16,
     pub len: u8,
 }
 
 // What a word stands for.
-#[derive(Drop)]
+#[derive(Clone, Copy)]
 pub enum Letter {
     Byte(u8),
     Nothing,

@@ -1,4 +1,6 @@
 // The Varicode writer: openings, bytes and closings to bits.
+#![tactic(auto)]
+
 ghost use Rattle.std.specs.Prelude.{◌≡◌, ◌+◌, ◌≤◌, leb, length};
 ghost use Rattle.queue.specs.Ring.{bit_room};
 ghost use Rattle.varicode_writer.specs.Writer.{opening, byte, closing, gap, fresh_writer};
@@ -11,20 +13,20 @@ use refusal::Put;
 
 // The writer: the bits that are not taken out yet, and whether no byte was written since the start or the
 // last opening.
-#[derive(Drop)]
+#[derive(Clone, Copy)]
 pub struct VaricodeEncoder {
     pub pending: BitQueue,
     pub first: bool,
 }
 
 // A call that puts bits: its answer, and the writer after it.
-#[derive(Drop)]
+#[derive(Clone, Copy)]
 pub struct Wrote {
     pub answer: Put,
     pub encoder: VaricodeEncoder,
 }
 
-#[derive(Drop)]
+#[derive(Clone, Copy)]
 pub struct NextBit {
     pub answer: Taken,
     pub encoder: VaricodeEncoder,
