@@ -5,14 +5,10 @@ use native.Mathlib.Omega.{arith}
 use borrow.Author.Rules.{rules}
 use lib.Bits.{bit_or, or_shifted}
 use lib.Pow.{shl_exact}
-use Rattle.trellis.proofs.window_of.Statement.{statement}
-use Rattle.trellis.proofs.window_of.Tie as tie
+use Rattle.trellis.proofs.window_of.Goals as goal
 
-returns : tie.Need-returns
+pub returns : goal.returns
 returns c =
-    let a = c.before.args in
+    let a = c.args in
     ap (λ (n : ℕ). bit_or n a.s) (shl_exact 1 a.code.width 32 (search rules) (omega arith))
     ∙ or_shifted a.b a.code.width a.s (search rules)
-
-pub window-of-spec : {M : Type 1} → statement M
-window-of-spec = tie.close (tie.spec (search rules) (search rules) returns)
