@@ -1,7 +1,6 @@
 -- `encoder::conv_encode`: K5 at rate 1/2 for as many steps as inputs. Assumes nothing.
 use mathlib.Core.Path.{refl}
 use native.Mathlib.Omega.{arith}
-use borrow.Author.Rules.{rules}
 use lib.ListN.{length}
 use Rattle.refusal.proofs.Over.{writes_refused, writes_accepted}
 use Rattle.encoder.proofs.Checks.{plain_many, plain_short, plain_fits}

@@ -1,7 +1,6 @@
 -- `encoder::conv_encode_punctured_with`: refusals 1 to 3, then a short output, then the codeword. Assumes nothing.
 use mathlib.Core.Path.{refl, ◌∙◌}
 use native.Mathlib.Omega.{arith}
-use borrow.Author.Rules.{rules}
 use Rattle.refusal.proofs.Over.{writes_refused, writes_accepted}
 use Rattle.encoder.proofs.Checks.{choice_few, encode_refused, encode_short, encode_fits}
 use Rattle.encoder.proofs.Selected.{chosen_narrow, chosen_rows, length-chosen, ready_at, codeword_left}

@@ -1,7 +1,6 @@
 -- `encoder::encode_at`: each way the code and the pattern are those of the numbers. Assumes nothing.
 use mathlib.Core.Path.{◌≡◌, refl}
 use native.Mathlib.Omega.{arith}
-use borrow.Author.Rules.{rules}
 use Rattle.encoder.proofs.Selected.{same_choice, chosen_ready, chosen_sends}
 use Rattle.encoder.proofs.encode_at.Goals as goal
 

@@ -1,7 +1,6 @@
 -- `encoder::input_at`: within the list its byte's lowest bit, past the end 0. Assumes nothing.
 use mathlib.Core.Path.{sym, ap, ◌∙◌}
 use Prim.Native.Nat.{ℕ, ◌%◌}
-use borrow.Author.Rules.{rules}
 use lib.ListN.{get_or-eq_default}
 use Rattle.trellis.proofs.Sent.{get_d_lowest}
 use Rattle.encoder.proofs.input_at.Goals as goal

@@ -1,7 +1,6 @@
 -- `encoder::punctured_coded_len_with`: what is refused first, and the rest is the formula. Assumes nothing.
 use mathlib.Core.Path.{sym, ap, ◌∙◌}
 use native.Mathlib.Omega.{arith}
-use borrow.Author.Rules.{rules}
 use Rattle.refusal.specs.Answer.{accepted}
 use Rattle.encoder.proofs.Checks.{choice_few, length-refused, length-is}
 use Rattle.encoder.proofs.Selected.{chosen_narrow, chosen_rows, length-chosen}

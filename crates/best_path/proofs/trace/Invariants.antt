@@ -1,0 +1,12 @@
+-- `best_path::trace`: the laws of a turn at what is known there. Assumes nothing.
+use mathlib.Core.Logic.{⊎_elim}
+use native.Mathlib.Omega.{arith}
+use borrow.Author.Rules.{rules}
+use Rattle.best_path.proofs.Back.{Walked, walked_starts, walked_writes, walked_passes, walked_ends, row_begins, row_holds}
+use Rattle.best_path.proofs.trace.Given as goal
+
+abbrev pub invariant-loop-i : goal.invariant-loop-i
+invariant-loop-i l = Walked l.half l.rows l.steps l.last l.info l.initial.out l.out l.s l.i l.at
+
+abbrev pub decreases-loop-i : goal.decreases-loop-i
+decreases-loop-i l = l.i
