@@ -1,8 +1,6 @@
 -- `best_path::trace`: the laws of a turn at what is known there. Assumes nothing.
-use mathlib.Core.Logic.{⊎_elim}
 use native.Mathlib.Omega.{arith}
-use borrow.Author.Rules.{rules}
-use Rattle.best_path.proofs.Back.{Walked, walked_starts, walked_writes, walked_passes, walked_ends, row_begins, row_holds}
+use Rattle.best_path.proofs.Back.{walked_starts, walked_writes, walked_passes, walked_ends, row_begins, row_holds}
 use Rattle.best_path.proofs.trace.Goals as goal
 use Rattle.best_path.proofs.trace.Goals.{else-i-info, then-i-info}
 
@@ -48,8 +46,8 @@ pub loop-i-preserved : goal.loop-i-preserved
 loop-i-preserved c =
     let some = c.loop-i-test.true in
     elim c.if-i-info.branch [
-    then-i-info w ↦ let (test, input, stored) = w in walked_writes c.requires c.loop-i.invariant some test.taken input.ensures stored
-    | else-i-info w ↦ let (test, kept) = w in walked_passes c.requires c.loop-i.invariant some test.left kept
+      | then-i-info w ↦ walked_writes c.requires c.loop-i.invariant some w.if-i-info.true w.input_into.ensures w.out-is
+      | else-i-info w ↦ walked_passes c.requires c.loop-i.invariant some w.if-i-info.false w.out-is
     ]
 
 pub shape_of-out : goal.shape_of-out

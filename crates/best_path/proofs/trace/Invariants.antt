@@ -1,8 +1,5 @@
 -- `best_path::trace`: the laws of a turn at what is known there. Assumes nothing.
-use mathlib.Core.Logic.{⊎_elim}
-use native.Mathlib.Omega.{arith}
-use borrow.Author.Rules.{rules}
-use Rattle.best_path.proofs.Back.{Walked, walked_starts, walked_writes, walked_passes, walked_ends, row_begins, row_holds}
+use Rattle.best_path.proofs.Back.{Walked}
 use Rattle.best_path.proofs.trace.Given as goal
 
 abbrev pub invariant-loop-i : goal.invariant-loop-i
