@@ -5,11 +5,7 @@ use lib.Dec.{lit≤}
 use lib.Ieee.{Float, nan, inf, fin, binary32, of_bits, neg, lt}
 use Rattle.f32s.specs.Single.{finite}
 use Rattle.f32s.proofs.Patterns.{number_below}
-use Rattle.f32s.proofs.is_finite.Statement.{statement}
-use Rattle.f32s.proofs.is_finite.Tie as tie
-
-float-from-bits-most : tie.Need-float-from-bits-most
-float-from-bits-most c = number_below 0x7f80_0000 (lit≤ tt)
+use Rattle.f32s.proofs.is_finite.Goals as goal
 
 between : (x : Float) → (lt x (of_bits binary32 0x7f80_0000) && lt (neg (of_bits binary32 0x7f80_0000)) x) ≡ finite x
 unfolding lt neg of_bits
@@ -18,8 +14,8 @@ between (inf true) = refl
 between (inf false) = refl
 between (fin s m e) = refl
 
-returns : tie.Need-returns
-returns c = between c.args.x
+pub float_from_bits-most : goal.float_from_bits-most
+float_from_bits-most c = number_below 0x7f80_0000 (lit≤ tt)
 
-pub is-finite-spec : {M : Type 1} → statement M
-is-finite-spec = tie.close (tie.spec float-from-bits-most returns)
+pub returns : goal.returns
+returns c = between c.args.x
