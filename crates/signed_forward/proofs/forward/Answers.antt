@@ -1,12 +1,10 @@
 -- `signed_forward::forward`: the laws of a step at what is known there. Assumes nothing.
-use Prim.Native.Nat.{◌-◌}
 use native.Mathlib.Omega.{arith}
-use borrow.Author.Rules.{rules}
 use lib.ListN.{length-take, length-drop}
 use Rattle.correlation.proofs.Steps.{rows_sized, column_below, column_within, reads_few, middle_few, row_within, row_few}
 use Rattle.signed_butterflies.specs.Held.{Byte}
 use Rattle.signed_butterflies.proofs.Words.{as_held}
-use Rattle.signed_forward.proofs.Steps.{ForwardedHeld, held_starts, held_goes_on, held_ends}
+use Rattle.signed_forward.proofs.Steps.{held_starts, held_goes_on, held_ends}
 use Rattle.signed_forward.proofs.Steps.{roomy, first_byte, second_byte, byte_fits}
 use Rattle.signed_forward.proofs.forward.Goals as goal
 

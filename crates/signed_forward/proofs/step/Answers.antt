@@ -1,13 +1,10 @@
 -- `signed_forward::step`: the laws of a turn at what is known there. Assumes nothing.
-use Prim.Native.Nat.{◌-◌}
 use native.Mathlib.Omega.{arith}
 use lib.ListN.{length-set}
-use mir.Syntax.{w32}
-use mir.Val.{to_z}
 use Rattle.signed_butterflies.specs.Held.{Byte, Room}
 use Rattle.signed_butterflies.proofs.Words.{back, as_held}
 use Rattle.trellis.proofs.States.{states_two_halves}
-use Rattle.signed_forward.proofs.Turn.{TurnsHeld, turns_held_start, turns_held_go_on, turns_held_end}
+use Rattle.signed_forward.proofs.Turn.{turns_held_start, turns_held_go_on, turns_held_end}
 use Rattle.signed_forward.proofs.step.Goals as goal
 
 pub loop-n-init : goal.loop-n-init

@@ -1,7 +1,6 @@
 -- `signed_forward::step_of`: half is one of the two constants. Assumes nothing.
 use mathlib.Core.Logic.{⊎_elim}
 use mathlib.Core.Path.{◌≡◌, sym}
-use borrow.Author.Rules.{rules}
 use Rattle.signed_butterflies.proofs.Words.{back}
 use Rattle.signed_forward.proofs.step_of.Goals as goal
 

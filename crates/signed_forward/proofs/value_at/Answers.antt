@@ -1,5 +1,4 @@
 -- `signed_forward::value_at`: the three kinds of place. Assumes nothing.
-use borrow.Author.Rules.{rules}
 use mathlib.Core.Path.{◌∙◌}
 use lib.IntN.{pos}
 use lib.ListN.{get_or}
@@ -9,11 +8,11 @@ use Rattle.signed_forward.proofs.value_at.Goals as goal
 
 pub overflow_cast-result : goal.overflow_cast-result
 overflow_cast-result c =
-    widened_fits (get_or c.args.readings.now c.args.at (pos 0)) search
+    widened_fits (get_or c.args.readings.now c.args.at (pos 0)) (search)
 
 pub returns-then-at-readings : goal.returns-then-at-readings
 returns-then-at-readings c =
-    widened (get_or c.args.readings.now c.args.at (pos 0)) search
+    widened (get_or c.args.readings.now c.args.at (pos 0)) (search)
     ∙ reads_received (pos 0) c.args.column c.args.readings.now c.args.at (pos 0) c.if-column-eq1.true
     c.if-at-readings.true
 
