@@ -2,18 +2,13 @@
 use mathlib.Core.Path.{◌∙◌}
 use native.Mathlib.Nat.{one-mul}
 use native.Mathlib.Omega.{arith}
-use borrow.Author.Rules.{rules}
 use Prim.Native.Nat.{◌^◌, ◌-◌}
 use lib.Dec.{lit<}
 use lib.Pow.{shl_exact}
-use Rattle.correlation.proofs.half_of.Statement.{statement}
-use Rattle.correlation.proofs.half_of.Tie as tie
+use Rattle.correlation.proofs.half_of.Goals as goal
 
-returns : tie.Need-returns
+pub returns : goal.returns
 returns c =
-    let width = c.before.args.code.width in
+    let width = c.args.code.width in
     let whole = shl_exact {a = 1} 1 (width - 1) 64 (lit< tt) (omega arith) in
     whole ∙ one-mul (2 ^ (width - 1))
-
-pub half-of-spec : {M : Type 1} → statement M
-half-of-spec = tie.close (tie.spec (search rules) (search rules) returns)
