@@ -1,6 +1,6 @@
 -- What a call leaves in a buffer that was lent to it. Definitions only.
 use Rattle.std.specs.Prelude.{List, ◌++◌, ◌≡◌, ℕ, ◌+◌, ◌≤◌, length, take, drop}
-use Rattle.std.specs.Borrow.{Bor}
+use Rattle.std.specs.Borrow.{MutBor}
 use denote.Triple.Both.{Both}
 use Rattle.refusal.specs.Answer.{Said, accepted, refused}
 
@@ -18,7 +18,7 @@ pub record Lent (B : Type 0) : Type 0 where
   pub given : List B
   pub left : List B
 
-abbrev pub lent : {B : Type 0} → Both (Bor (List B)) (Bor (List B)) → Lent B
+abbrev pub lent : {B : Type 0} → Both (MutBor (List B)) (MutBor (List B)) → Lent B
 lent out = record { given = out.entry.now; left = out.exit.now }
 
 -- ---- pieces, one behind the other

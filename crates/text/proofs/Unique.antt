@@ -3,7 +3,7 @@
 use mathlib.Core.List.{List}
 use mathlib.Core.Path.{sym, ◌∙◌}
 use Prim.Native.Nat.{ℕ}
-use denote.Ref.{Bor}
+use Rattle.std.specs.Borrow.{MutBor}
 use Rattle.refusal.specs.Lent.{PutsAt}
 use Rattle.refusal.proofs.Determined.{OnceLeft}
 use Rattle.text.proofs.put.Reads as put
@@ -13,7 +13,7 @@ use Rattle.text.proofs.put_decimal.Reads as put_decimal
 
 puts_once :
     (piece : List ℕ) (at : ℕ) (given : List ℕ) →
-    OnceLeft (λ (next : ℕ) (out : Bor (List ℕ)). PutsAt piece at next (record { given = given; left = out.now }))
+    OnceLeft (λ (next : ℕ) (out : MutBor (List ℕ)). PutsAt piece at next (record { given = given; left = out.now }))
 puts_once piece at given r r' left left' p q = (p.place ∙ sym q.place, p.output ∙ sym q.output)
 
 pub put_once :
