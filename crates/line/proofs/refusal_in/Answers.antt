@@ -1,6 +1,5 @@
 -- `line::refusal_in`: the answer's refusal as it stands. Assumes nothing.
 use mathlib.Core.Path.{sym, ap}
-use borrow.Author.Rules.{rules}
 use Rattle.f32_answers.specs.Answer.{word_said}
 use Rattle.f32_answers.specs.declared.Decoded.{Decoded}
 use Rattle.line.specs.Inner.{refusal_in}

@@ -1,6 +1,5 @@
 -- `line::refused_line`: five texts, each behind the one before. Assumes nothing.
 use native.Mathlib.Omega.{arith}
-use borrow.Author.Rules.{rules}
 use Rattle.text.proofs.Digits.{decimal_few}
 use Rattle.line.proofs.Written.{five_texts}
 use Rattle.line.proofs.refused_line.Goals as goal
@@ -24,8 +23,8 @@ put-count-requires c =
 pub returns : goal.returns
 returns c =
     five_texts
-    record { puts = c.put-number_at.ensures; size = c.put-number_at.kept.0 }
-    record { puts = c.put_decimal-at_at.ensures; size = c.put_decimal-at_at.kept.0 }
-    record { puts = c.put-place_at.ensures; size = c.put-place_at.kept.0 }
-    record { puts = c.put_decimal-end_at.ensures; size = c.put_decimal-end_at.kept.0 }
-    record { puts = c.put-count.ensures; size = c.put-count.kept.0 }
+    record { puts = c.put-number_at.ensures; size = c.put-number_at.auto.out }
+    record { puts = c.put_decimal-at_at.ensures; size = c.put_decimal-at_at.auto.out }
+    record { puts = c.put-place_at.ensures; size = c.put-place_at.auto.out }
+    record { puts = c.put_decimal-end_at.ensures; size = c.put_decimal-end_at.auto.out }
+    record { puts = c.put-count.ensures; size = c.put-count.auto.out }

@@ -1,7 +1,6 @@
 -- `line::word_line`: five texts, each behind the one before. Assumes nothing.
 use mathlib.Core.Path.{ap}
 use native.Mathlib.Omega.{arith}
-use borrow.Author.Rules.{rules}
 use Rattle.text.specs.Text.{hex_digits}
 use Rattle.text.proofs.Digits.{eight}
 use Rattle.text.proofs.Written.{puts_as}
@@ -27,8 +26,8 @@ put-count-requires c =
 pub returns : goal.returns
 returns c =
     five_texts
-    record { puts = c.put-word_at.ensures; size = c.put-word_at.kept.0 }
-    record { puts = c.put_word-score_at.ensures; size = c.put_word-score_at.kept.0 }
-    record { puts = c.put-bits_at.ensures; size = c.put-bits_at.kept.0 }
-    record { puts = puts_as (ap (hex_digits 8) c.bits_of.ensures) c.put_hex-end_at.ensures; size = c.put_hex-end_at.kept.0 }
-    record { puts = c.put-count.ensures; size = c.put-count.kept.0 }
+    record { puts = c.put-word_at.ensures; size = c.put-word_at.auto.out }
+    record { puts = c.put_word-score_at.ensures; size = c.put_word-score_at.auto.out }
+    record { puts = c.put-bits_at.ensures; size = c.put-bits_at.auto.out }
+    record { puts = puts_as (ap (hex_digits 8) c.bits_of.ensures) c.put_hex-end_at.ensures; size = c.put_hex-end_at.auto.out }
+    record { puts = c.put-count.ensures; size = c.put-count.auto.out }
