@@ -35,7 +35,7 @@ pub fn signed_score(answer: u64) -> Result<i32, Refusal> {
     accepted(answer).map(|low| low as i32)
 }
 
-/// The lowest 32 bits, unless a refusal's number stands above them: proved to be the door's answer again (`doorRead` in
+/// The lowest 32 bits, unless a refusal's number stands above them: proved to be the door's answer again (`door_read` in
 /// `crates/refusal/specs/Answer.antt`, and `proofs/Told.antt` of `crates/doors` and of `crates/radio`).
 fn accepted(answer: u64) -> Result<u32, Refusal> {
     let (number, low) = ((answer >> 32) as u32, answer as u32);
