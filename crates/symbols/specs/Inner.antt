@@ -1,5 +1,6 @@
 -- What the inner functions ask and ensure. Definitions only.
-use Rattle.std.specs.Prelude.{true, false, cond, List, ◌++◌, map, ◌≡◌, ℕ, zero, suc, ◌+◌, ◌*◌, ◌^◌, ◌≤◌, ◌<◌, eqb, ltb, Float, length, get_or, drop}
+use Rattle.std.specs.Prelude.{true, false, cond, List, ◌++◌, map, ◌≡◌, ℕ, zero, suc, ◌+◌, ◌*◌, ◌^◌, ◌≤◌}
+use Rattle.std.specs.Prelude.{◌<◌, eqb, ltb, Float, length, get_or, drop}
 use Rattle.std.specs.Float.{nan, inf}
 use Rattle.std.specs.Float.Ieee.{lt}
 use Rattle.best_path.specs.Step.{Cell, step}

@@ -27,6 +27,7 @@ fn decode(soft: &[f32], bits: &[u8], count: usize, out: &mut [u8], scratch: &mut
 
 // The refusals 3 to 5, in their order, of a call that brings so many symbols and is lent so much room: the number, or
 // 0 where there is none.
+#[tactic(auto, unfolding(crate::specs::Inner::room_refusal))]
 fn refused_room(count: usize, room: usize, scratch: usize) -> u8
     ensures { result ≡ room_refusal count room scratch }
 {
