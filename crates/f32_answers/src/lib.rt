@@ -28,6 +28,7 @@ pub fn word_number(answer: Decoded) -> u64
 
 // The place of refusal 6: the index of the first of the used readings that is NaN or infinite, and their number where
 // none is. The readings are those of floats and, behind them, those of bytes.
+#[tactic(auto, using(crate::proofs::Used::used_found))]
 pub fn first_bad(floats: &[f32], bytes: &[u8], used: usize) -> usize
     requires { used ≤ length (values_in floats.now bytes.now) }
     ensures { result ≡ first_bad finite (take used (values_lent floats bytes)) }

@@ -41,14 +41,14 @@ module _ (b0 b1 b2 b3 : ℕ) (rest : List ℕ) where
       )
 
 -- what a read past the end would give, d, is not seen
-pub value_at : (d : Float) (bytes : List ℕ) (i : ℕ) → i < length bytes / 4 → value_at bytes (4 * i) ≡ get_or (all_of_bytes bytes) i d
+pub value_at-is : (d : Float) (bytes : List ℕ) (i : ℕ) → i < length bytes / 4 → value_at bytes (4 * i) ≡ get_or (all_of_bytes bytes) i d
 unfolding all_of_bytes
-value_at d [] i h = absurd (omega arith)
-value_at d (b0 ∷ []) i h = absurd (omega arith)
-value_at d (b0 ∷ b1 ∷ []) i h = absurd (omega arith)
-value_at d (b0 ∷ b1 ∷ b2 ∷ []) i h = absurd (omega arith)
-value_at d (b0 ∷ b1 ∷ b2 ∷ b3 ∷ rest) zero h = refl
-value_at d (b0 ∷ b1 ∷ b2 ∷ b3 ∷ rest) (suc i) h = later_value b0 b1 b2 b3 rest i ∙ value_at d rest i (omega arith)
+value_at-is d [] i h = absurd (omega arith)
+value_at-is d (b0 ∷ []) i h = absurd (omega arith)
+value_at-is d (b0 ∷ b1 ∷ []) i h = absurd (omega arith)
+value_at-is d (b0 ∷ b1 ∷ b2 ∷ []) i h = absurd (omega arith)
+value_at-is d (b0 ∷ b1 ∷ b2 ∷ b3 ∷ rest) zero h = refl
+value_at-is d (b0 ∷ b1 ∷ b2 ∷ b3 ∷ rest) (suc i) h = later_value b0 b1 b2 b3 rest i ∙ value_at-is d rest i (omega arith)
 
 -- ---- behind others
 
@@ -71,7 +71,7 @@ module _ (floats : List Float) (bytes : List ℕ) (i : ℕ) (d : Float) where
   pub value_behind : length floats ≤ i → {j : ℕ} → j ≡ i - length floats → j < length bytes / 4 → value_at bytes (4 * j) ≡ value
   value_behind past {j} e h =
       let here : length floats + j ≡ i = omega (arith, e) in
-      value_at d bytes j h
+      value_at-is d bytes j h
       ∙ sym (get_or-append-add floats (all_of_bytes bytes) j d)
       ∙ ap (λ (n : ℕ). get_or (values_in floats bytes) n d) here
 
@@ -109,7 +109,7 @@ module _
       Copied bytes old count values' (i + 1)
   copied_goes_on h {x} e {values'} f =
       let value : x ≡ get_or (new bytes old) i nan =
-      e ∙ value_at nan bytes i (omega (arith, counted)) ∙ sym (get_or-take (length old) (all_of_bytes bytes) i nan (omega (arith, counted))) in
+      e ∙ value_at-is nan bytes i (omega (arith, counted)) ∙ sym (get_or-take (length old) (all_of_bytes bytes) i nan (omega (arith, counted))) in
       record {
         turns = omega arith;
         size = rw f (simp length-set now.size);

@@ -1,7 +1,7 @@
 -- What is inside a ring of any capacity, and that it stays whole, after each of its steps. Assumes nothing.
 use mathlib.Core.List.{List, [], ◌∷◌, ◌++◌, append_assoc, append-nil}
 use mathlib.Core.Logic.{⊎_elim}
-use mathlib.Core.Path.{◌≡◌, refl, sym, ap, ap₂, ◌∙◌}
+use mathlib.Core.Path.{◌≡◌, refl, sym, ap, ap₂, subst, ◌∙◌}
 use Prim.Native.Nat.{ℕ, zero, suc, ◌+◌, ◌-◌, ◌%◌, ◌≤◌, ◌<◌}
 use native.Mathlib.Nat.{mod-lt, mod-eq_of_lt, mod-add-mod, mod-eq-sub-mod, eq-zero-or-pos}
 use native.Mathlib.Numerals.{add-one}
@@ -47,10 +47,13 @@ module _ (cap : ℕ) (slots : List ℕ) where
       elements cap (set slots ((at + m) % cap) v) at n ≡ elements cap slots at n
   unfolding elements
   elements_set v at zero m h f g = refl
+  elements_set v at (suc n) zero h f g = elim f [ ]
   elements_set v at (suc n) (suc m) h f g =
       ap₂ ◌∷◌
       (get_or-set_other slots ((at + suc m) % cap) at v 0 (around_other h (omega arith) g))
-      (rw (← around_suc cap at m) (elements_set v ((at + 1) % cap) n m (mod-lt (at + 1) (omega arith)) (omega arith) (omega arith)))
+      (subst (λ (p : ℕ). elements cap (set slots p v) ((at + 1) % cap) n ≡ elements cap slots ((at + 1) % cap) n)
+      (around_suc cap at m)
+      (elements_set v ((at + 1) % cap) n m (mod-lt (at + 1) (omega arith)) (omega arith) (omega arith)))
 
 -- ---- a new ring, and one that is read
 
@@ -107,7 +110,8 @@ put_all-room {cap} {r} vs room =
 pub put_all-in_range : {cap : ℕ} {r : Ring} → InRange cap r → (vs : List ℕ) → r.count + length vs ≤ cap → InRange cap (put_all cap r vs)
 unfolding put_all
 put_all-in_range w [] room = w
-put_all-in_range w (v ∷ vs) room = put_all-in_range (put_in_range w (omega arith) v) vs (omega arith)
+put_all-in_range {cap = cap} {r = r} w (v ∷ vs) room =
+    put_all-in_range {r = put_one cap r v} (put_in_range w (omega arith) v) vs (omega arith)
 
 pub inside_put_all :
     {cap : ℕ} {r : Ring} → InRange cap r → (vs : List ℕ) → r.count + length vs ≤ cap →
@@ -115,7 +119,7 @@ pub inside_put_all :
 unfolding put_all
 inside_put_all {cap} {r} w [] room = sym (append-nil (inside cap r))
 inside_put_all {cap} {r} w (v ∷ vs) room =
-    inside_put_all (put_in_range w (omega arith) v) vs (omega arith)
+    inside_put_all {r = put_one cap r v} (put_in_range w (omega arith) v) vs (omega arith)
     ∙ ap (λ (xs : List ℕ). xs ++ vs) (inside_put w (omega arith) v)
     ∙ append_assoc (inside cap r) (v ∷ []) vs
 

@@ -3,7 +3,7 @@
 -- entries. Assumes nothing.
 use mathlib.Core.List.{List}
 use mathlib.Core.Path.{◌≡◌, sym, ◌∙◌}
-use Rattle.std.specs.Borrow.{MutBor}
+use denote.Ref.{MutBor}
 use Rattle.refusal.specs.Answer.{Said}
 use Rattle.refusal.specs.Lent.{Writes, WritesBoth}
 

@@ -3,7 +3,7 @@
 use mathlib.Core.List.{List}
 use mathlib.Core.Path.{sym, ◌∙◌}
 use Prim.Native.Nat.{ℕ}
-use Rattle.std.specs.Borrow.{MutBor}
+use denote.Ref.{MutBor}
 use Rattle.refusal.specs.Lent.{PutsAt}
 use Rattle.refusal.proofs.Determined.{OnceLeft}
 use Rattle.text.proofs.put.Reads as put

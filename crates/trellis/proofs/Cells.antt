@@ -1,13 +1,12 @@
 -- The register's cells and the number that they make: shifting halves the window, and the parity of the masked window is the coded bit.
 -- Over any width and tap word. Assumes nothing.
 use mathlib.Core.List.{List, [], ◌∷◌}
-use mathlib.Core.Path.{◌≡◌, refl, sym, ap, ap₂, subst, ◌∙◌}
-use Prim.Native.Nat.{ℕ, zero, suc, ◌+◌, ◌*◌, ◌/◌, ◌%◌, ◌^◌, min, ◌<◌}
-use native.Mathlib.Nat.{pow-suc, mul_comm, mul-zero, mod-lt, mod-eq_of_lt, lt_of_le_of_lt}
+use mathlib.Core.Path.{◌≡◌, refl, sym, ap, ap₂, ◌∙◌}
+use Prim.Native.Nat.{ℕ, zero, suc, ◌+◌, ◌*◌, ◌/◌, ◌%◌, ◌^◌, ◌<◌}
+use native.Mathlib.Nat.{mul-zero, mod-lt, mod-eq_of_lt, lt_of_le_of_lt}
 use native.Mathlib.Omega.{arith}
-use lib.Arith.{digits_lt}
 use lib.Dec.{lit<}
-use lib.Bits.{bit_and, block_half, and_block, and_le_l, and_mod}
+use lib.Bits.{bit_and, block_half, and_block, and_le_l, and_comm, and_mask, and_mod}
 use lib.Count.{ones, ones_cat}
 use lib.ListN.{length}
 use lib.Pow.{pow_pos, split}
@@ -34,16 +33,19 @@ value_shifted {b} h (more {c} {cs} g r) =
     rw (length-shifted c cs, value_shifted g r) (sym (block_half b (length cs) (c * 2 ^ length cs + value cs)))
 
 -- one tap over one bit
-ones_bit : (m : ℕ) → m < 2 → ones (0 + min 1 m) ≡ m * 1
+ones_bit : (m : ℕ) → m < 2 → ones m ≡ m * 1
 unfolding ones
 ones_bit zero h = refl
 ones_bit (suc zero) h = refl
 ones_bit (suc (suc m)) h = absurd (omega arith)
 
+lowest_bit : (n : ℕ) → bit_and 1 n ≡ n % 2
+lowest_bit n = and_comm 1 n ∙ and_mask n 1
+
 tapped_bit : (c n : ℕ) → c < 2 → ones (bit_and c n) ≡ n % 2 * c
 unfolding ones
 tapped_bit zero n h = sym (mul-zero (n % 2))
-tapped_bit (suc zero) n h = ones_bit (n % 2) (mod-lt n (lit< tt))
+tapped_bit (suc zero) n h = ap ones (lowest_bit n) ∙ ones_bit (n % 2) (mod-lt n (lit< tt))
 tapped_bit (suc (suc c)) n h = absurd (omega arith)
 
 -- a number of k bits looks no further than the k lowest bits of its mask

@@ -9,7 +9,7 @@ use lib.ListN.{length, get_or, take}
 use lib.Seq.{length-take-le, take-take, get_or-take}
 use Rattle.trellis.specs.declared.KeepPattern.{KeepPattern}
 use Rattle.trellis.specs.Choice.{keep_of}
-use Rattle.trellis.specs.Keep.{Keep, Pattern, period, keeps_by, keeps0, keeps1, ones_of, coded_length}
+use Rattle.trellis.specs.Keep.{Pattern, keeps_by, keeps0, keeps1, ones_of, coded_length}
 use Rattle.trellis.specs.Inner.{Rows, OnesIn, Measurable}
 use Rattle.trellis.proofs.Kept.{ones-more, ones-same}
 

@@ -1,17 +1,16 @@
 -- What is sent, for any code and keep pattern: how many bits, from which inputs, and by the state in place of the register.
 -- Assumes nothing.
-use mathlib.Core.List.{List, [], ◌∷◌, ◌++◌, map}
+use mathlib.Core.List.{List, [], ◌∷◌, ◌++◌}
 use mathlib.Core.Path.{◌≡◌, refl, sym, ap, ap₂, subst, ◌∙◌}
 use Prim.Native.Nat.{ℕ, zero, suc, ◌+◌, ◌*◌, ◌%◌, ◌^◌, ◌<◌}
 use native.Mathlib.Nat.{mod-lt, mod-eq_of_lt}
-use native.Mathlib.Omega.{arith}
 use lib.Dec.{lit<}
 use lib.ListN.{length, get_or, replicate, get_or-map}
 use Rattle.binary.specs.Digits.{value}
 use Rattle.binary.proofs.Values.{more}
 use Rattle.trellis.specs.declared.ConvCode.{ConvCode}
 use Rattle.trellis.specs.Register.{coded_bit, shifted, register_after}
-use Rattle.trellis.specs.Keep.{Keep, Pattern, kept_of, kept_through, coded_length}
+use Rattle.trellis.specs.Keep.{Keep, Pattern, kept_through, coded_length}
 use Rattle.trellis.specs.Codeword.{window_at, coded0, coded1, sent_by, lowest_bits, zero_tailed, steps_of, codeword}
 use Rattle.trellis.specs.State.{window, parity_of, state_after}
 use Rattle.trellis.proofs.Cells.{coded_parity}

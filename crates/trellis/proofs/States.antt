@@ -1,10 +1,10 @@
 -- States: the next one is the window halved, none leaves its range, each has two predecessors, and the state is the register's value.
 -- Over any code with a cell at least. Assumes nothing.
-use mathlib.Core.List.{List, [], ◌∷◌}
+use mathlib.Core.List.{List}
 use mathlib.Core.Logic.{◌⊎◌, inl, inr}
 use mathlib.Core.Path.{◌≡◌, refl, sym, ap, ap₂, subst, ◌∙◌}
 use Prim.Native.Nat.{ℕ, zero, suc, ◌+◌, ◌-◌, ◌*◌, ◌/◌, ◌%◌, ◌^◌, ◌<◌}
-use native.Mathlib.Nat.{add_comm, mul_comm, pow-suc, div-lt_iff_lt-mul, eq-zero-or-pos}
+use native.Mathlib.Nat.{add_comm, mul_comm, pow-suc, div-lt_iff_lt-mul}
 use native.Mathlib.Omega.{arith}
 use lib.Arith.{digits_lt, digits_div, digits_mod}
 use lib.Bits.{block_half}
@@ -14,7 +14,7 @@ use lib.Pow.{pow_pos, shr_lt}
 use Rattle.binary.specs.Digits.{value}
 use Rattle.binary.proofs.Values.{Bits, none, more}
 use Rattle.trellis.specs.declared.ConvCode.{ConvCode}
-use Rattle.trellis.specs.Register.{shifted, register_after}
+use Rattle.trellis.specs.Register.{register_after}
 use Rattle.trellis.specs.State.{window, next_state, state_after}
 use Rattle.trellis.proofs.Cells.{length-shifted, shifted_bits, value_shifted}
 

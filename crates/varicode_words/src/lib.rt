@@ -314,6 +314,7 @@ fn length_of(bits: u16) -> u8
 
 // The byte whose word has these bits and this length, if there is one. A word begins with 1, so that its value has one
 // length, its own.
+#[tactic(auto, using(crate::proofs::NoWord::decode_large, crate::proofs::NoWord::decode_other_length))]
 pub fn varicode_decode(bits: u16, len: u8) -> Letter
     ensures { letter_said result ≡ decode_of bits len }
 {

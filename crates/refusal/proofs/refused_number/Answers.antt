@@ -1,5 +1,5 @@
 -- `refusal::refused_number`, by 01's formula. Assumes nothing.
-use Rattle.std.proofs.Common.{refl}
+use mathlib.Core.Path.{refl}
 use Rattle.refusal.specs.Answer.{door_number}
 use Rattle.refusal.proofs.refused_number.Goals as goal
 

@@ -1,0 +1,68 @@
+-- `correlation::prepare`: the five tests in their order. Assumes nothing.
+use native.Mathlib.Omega.{arith}
+use Rattle.encoder.proofs.Checks.{choice_few}
+use Rattle.encoder.proofs.Selected.{chosen_narrow}
+use Rattle.correlation.proofs.Checks.{refused_by_choice, refused_by_room, refused_by_scratch, none_refused}
+use Rattle.correlation.proofs.Selected.{same_rows, half_few, rows_few, chosen_usable, used_chosen}
+use Rattle.correlation.proofs.prepare.Goals as goal
+
+pub half_of-half-requires : goal.half_of-half-requires
+half_of-half-requires c = chosen_narrow c.choose-chosen.ensures
+
+pub returns-then-number-ne0 : goal.returns-then-number-ne0
+returns-then-number-ne0 c =
+    record {
+      decided = refused_by_choice c.refused_choice-number.ensures _ _ c.if-number-ne0.true;
+      chosen = c.choose-chosen.ensures;
+      halved = c.half_of-half.ensures;
+      used = λ none. absurd (c.if-number-ne0.true none);
+    }
+
+pub returns-then-room-info : goal.returns-then-room-info
+returns-then-room-info c =
+    record {
+      decided = refused_by_room c.refused_choice-number.ensures _ _ c.if-number-ne0.false c.if-room-info.true;
+      chosen = c.choose-chosen.ensures;
+      halved = c.half_of-half.ensures;
+      used = λ none. absurd (omega (arith, none));
+    }
+
+pub overflow_add-steps : goal.overflow_add-steps
+overflow_add-steps c =
+    let few = choice_few c.refused_choice-number.ensures c.if-number-ne0.false in
+    omega (arith, (chosen_narrow c.choose-chosen.ensures).narrow, few)
+
+pub overflow_mul-half : goal.overflow_mul-half
+overflow_mul-half c =
+    omega (arith, half_few c.choose-chosen.ensures c.half_of-half.ensures)
+
+pub overflow_mul-steps : goal.overflow_mul-steps
+overflow_mul-steps c =
+    let few = choice_few c.refused_choice-number.ensures c.if-number-ne0.false in
+    omega (arith, rows_few c.choose-chosen.ensures c.half_of-half.ensures _ few)
+
+pub returns-then-scratch-steps : goal.returns-then-scratch-steps
+returns-then-scratch-steps c =
+    record {
+      decided =
+          refused_by_scratch c.refused_choice-number.ensures _ _ c.if-number-ne0.false c.if-room-info.false
+          (same_rows c.choose-chosen.ensures c.half_of-half.ensures _) c.if-scratch-steps.true;
+      chosen = c.choose-chosen.ensures;
+      halved = c.half_of-half.ensures;
+      used = λ none. absurd (omega (arith, none));
+    }
+
+pub used_of-used-requires : goal.used_of-used-requires
+used_of-used-requires c =
+    chosen_usable c.choose-chosen.ensures _ (choice_few c.refused_choice-number.ensures c.if-number-ne0.false)
+
+pub returns : goal.returns
+returns c =
+    record {
+      decided =
+          none_refused c.refused_choice-number.ensures _ _ c.if-number-ne0.false c.if-room-info.false
+          (same_rows c.choose-chosen.ensures c.half_of-half.ensures _) c.if-scratch-steps.false;
+      chosen = c.choose-chosen.ensures;
+      halved = c.half_of-half.ensures;
+      used = λ none. used_chosen c.choose-chosen.ensures _ c.used_of-used.ensures;
+    }

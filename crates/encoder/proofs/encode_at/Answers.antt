@@ -1,0 +1,38 @@
+-- `encoder::encode_at`: each way the code and the pattern are those of the numbers. Assumes nothing.
+use mathlib.Core.Path.{◌≡◌, refl}
+use native.Mathlib.Omega.{arith}
+use Rattle.encoder.proofs.Selected.{same_choice, chosen_ready, chosen_sends}
+use Rattle.encoder.proofs.encode_at.Goals as goal
+
+-- K5 at rate 1/2
+pub encode-requires : goal.encode-requires
+encode-requires c =
+    let is-k5 : 0 ≡ c.args.code = omega arith in
+    let is-half : 0 ≡ c.args.rate = omega arith in
+    chosen_ready (same_choice is-k5 is-half c.choose-k5.ensures) c.requires.room
+
+pub returns-then-code-eq0 : goal.returns-then-code-eq0
+returns-then-code-eq0 c =
+    let is-k5 : 0 ≡ c.args.code = omega arith in
+    let is-half : 0 ≡ c.args.rate = omega arith in
+    chosen_sends (same_choice is-k5 is-half c.choose-k5.ensures) c.encode.ensures
+
+-- any code at rate 1/2
+pub encode-requires-then-rate-eq0 : goal.encode-requires-then-rate-eq0
+encode-requires-then-rate-eq0 c =
+    let is-half : 0 ≡ c.args.rate = omega arith in
+    chosen_ready (same_choice refl is-half c.choose-half.ensures) c.requires.room
+
+pub returns-then-rate-eq0 : goal.returns-then-rate-eq0
+returns-then-rate-eq0 c =
+    let is-half : 0 ≡ c.args.rate = omega arith in
+    chosen_sends (same_choice refl is-half c.choose-half.ensures) c.encode-then-rate-eq0.ensures
+
+-- any
+pub encode-requires-2 : goal.encode-requires-2
+encode-requires-2 c =
+    chosen_ready c.requires.chooses c.requires.room
+
+pub returns : goal.returns
+returns c =
+    chosen_sends c.requires.chooses c.encode-2.ensures

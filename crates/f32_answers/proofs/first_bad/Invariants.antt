@@ -1,0 +1,8 @@
+-- `f32_answers::first_bad`: a search from the front. Assumes nothing.
+use lib.ListN.{take}
+use Rattle.f32s.specs.Single.{finite, values_in}
+use Rattle.refusal.proofs.FirstBad.{Sought}
+use Rattle.f32_answers.proofs.first_bad.Given as goal
+
+abbrev pub invariant-loop-i : goal.invariant-loop-i
+invariant-loop-i l = Sought finite (take l.used (values_in l.floats l.bytes)) l.i

@@ -1,0 +1,17 @@
+-- `f32s::from_all_bytes`: the laws of a turn at what is known there. Assumes nothing.
+use Rattle.f32s.proofs.AllBytes.{copied_starts, copied_goes_on, copied_ends}
+use Rattle.f32s.proofs.from_all_bytes.Goals as goal
+
+pub loop-i-init : goal.loop-i-init
+loop-i-init c = copied_starts
+
+pub loop-i-preserved : goal.loop-i-preserved
+loop-i-preserved c =
+    copied_goes_on c.loop-i.invariant c.lesser-count.ensures c.loop-i-test.true c.from_bytes.ensures (search)
+
+pub shape_of-values : goal.shape_of-values
+shape_of-values c = c.loop-i.invariant.size
+
+pub returns : goal.returns
+returns c =
+    copied_ends c.loop-i.invariant c.lesser-count.ensures c.loop-i-test.false
