@@ -6,7 +6,7 @@
 // is no call is answered by `no call`, and one that is longer than the room for it by `too long`.
 #![tactic(auto)]
 
-ghost use Rattle.std.specs.Prelude.{◌≡◌, ◌≤◌, ◌<◌, length, IfOk, OnErr};
+ghost use Rattle.std.specs.Prelude.{◌≡◌, ◌≤◌, ◌<◌, length, take, IfOk, OnErr};
 
 mod blocks;
 mod stream;
@@ -94,7 +94,8 @@ fn move_down(text: &mut [u8], from: usize, to: usize)
 // Reads once, behind the kept bytes, and answers how many bytes there are then.
 fn read_more<R: Read>(from: &mut R, text: &mut [u8], kept: usize) -> io::Result<usize>
     requires { kept ≤ length text.old }
-    ensures { IfOk result (λ n. (kept ≤ n) × (n ≤ length text.new)) }
+    ensures within { IfOk result (λ n. (kept ≤ n) × (n ≤ length text.new)) }
+    ensures keeps { take kept text.new ≡ take kept text.old }
 {
     let got = from.read(&mut text[kept..])?;
     Ok(kept + got)

@@ -19,10 +19,8 @@ pub fn word<W: Write>(to: &mut W, line: &[u8]) -> io::Result<()> {
 // `d LENGTH`. Prints each value of that length that is a word, and its byte.
 pub fn lookups<W: Write>(to: &mut W, line: &[u8]) -> io::Result<()> {
     let len = byte(field(line, 1));
-    let mut value: u32 = 0;
-    while value < 0x1_0000 {
+    for value in 0..0x1_0000u32 {
         lookup(to, value as u16, len)?;
-        value += 1;
     }
     Ok(())
 }
