@@ -2,8 +2,8 @@
 -- never come. Assumes nothing.
 use mathlib.Core.Bool.{true, false, true≢false}
 use mathlib.Core.List.{List, []}
-use mathlib.Core.Path.{◌≡◌, sym, ap, ◌∙◌}
-use Prim.Native.Nat.{ℕ, ◌≤◌}
+use mathlib.Core.Path.{◌≡◌, refl, sym, ap, ◌∙◌}
+use Prim.Native.Nat.{ℕ, ◌-◌, ◌≤◌}
 use native.Mathlib.Decide.{dec_lt}
 use native.Mathlib.Nat.{mul-le-mul}
 use native.Mathlib.Omega.{arith}
@@ -34,6 +34,7 @@ use Rattle.trellis.proofs.Chosen.{code_width}
 use Rattle.line.specs.Line.{most_info, most_survivors, shaped, code_in, rate_in, info_in, readings_in}
 use Rattle.line.specs.Line.{line_said, word_in, line_of, output}
 use Rattle.line.specs.Inner.{refusal_in, refusal_said, RefusalIn}
+use Rattle.text.proofs.Written.{rest_taken}
 
 -- ---- the shape of the input
 
@@ -85,6 +86,22 @@ pub record Called (input bytes : List ℕ) (number : ℕ) (answer : Decoded) : T
   pub behind : bytes ≡ drop 4 input
   pub says :
       word_said answer ≡ decode_said (code_in input) (rate_in input) (info_in input) (all_of_bytes bytes) most_info most_survivors
+
+-- the same, as the program calls it: with all bytes behind the first four
+pub called_behind :
+    (input : List ℕ) {number : ℕ} {answer : Decoded} →
+    shaped (length input) ≡ true → Decides most_info (code_in input) (rate_in input) (info_in input) number → number ≡ 0 →
+    word_said answer
+    ≡ decode_said (code_in input) (rate_in input) (info_in input) (all_of_bytes (take (length input - 4) (drop 4 input)))
+    most_info most_survivors →
+    Called input (take (length input - 4) (drop 4 input)) number answer
+called_behind input is decides passes says =
+    record {
+      choice = record { is = is; decides = decides };
+      passes = passes;
+      behind = rest_taken input 4 (length input) refl;
+      says = says;
+    }
 
 module _ {input bytes : List ℕ} {number : ℕ} {answer : Decoded} (call : Called input bytes number answer) where
   pub info_few : info_in input ≤ most_info

@@ -1,0 +1,12 @@
+-- `readings::viterbi_decode_bytes`: the readings are all in the bytes. Assumes nothing.
+use mathlib.Core.Path.{sym}
+use Rattle.f32s.proofs.AllBytes.{length-all}
+use Rattle.readings.proofs.viterbi_decode_bytes.Goals as goal
+
+pub decode_readings-requires : goal.decode_readings-requires
+decode_readings-requires c =
+    sym (length-all c.args.bytes.now)
+
+pub returns : goal.returns
+returns c =
+    c.decode_readings.ensures
