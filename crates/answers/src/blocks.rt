@@ -8,14 +8,16 @@ use call_lines::shapes::COMPONENTS;
 use f32_answers::word_number;
 use refusal::count_number;
 use signed_readings::viterbi_decode_signed_with;
+use std::io;
+use std::io::Write;
 
-fn print_both(answer: u64, out: &[u8], scratch: &[u8]) {
-    print_answer(answer, out);
-    print_bytes(scratch);
+fn print_both<W: Write>(to: &mut W, answer: u64, out: &[u8], scratch: &[u8]) -> io::Result<()> {
+    print_answer(to, answer, out)?;
+    print_bytes(to, scratch)
 }
 
 // `e CODE RATE INFO ROOM`: the info bytes, and the output's length. Prints the answer and the output.
-pub fn punctured(line: &[u8]) {
+pub fn punctured<W: Write>(to: &mut W, line: &[u8]) -> io::Result<()> {
     let mut info = lent();
     let n = fill(field(line, 3), &mut info);
     let mut out_room = lent();
@@ -24,32 +26,32 @@ pub fn punctured(line: &[u8]) {
     let code = byte(field(line, 1));
     let rate = byte(field(line, 2));
     let answer = encoder::conv_encode_punctured_with(code, &info[0..n], rate, out);
-    print_answer(count_number(answer), out);
+    print_answer(to, count_number(answer), out)
 }
 
 // `p BITS ROOM`: the input bits, and the output's length. Prints the same.
-pub fn plain(line: &[u8]) {
+pub fn plain<W: Write>(to: &mut W, line: &[u8]) -> io::Result<()> {
     let mut bits = lent();
     let n = fill(field(line, 1), &mut bits);
     let mut out_room = lent();
     let m = room(field(line, 2), SHORT);
     let out = &mut out_room[0..m];
     let answer = encoder::conv_encode(&bits[0..n], out);
-    print_answer(count_number(answer), out);
+    print_answer(to, count_number(answer), out)
 }
 
 // `l CODE RATE COUNT`: the info count. Prints the answer.
-pub fn length(line: &[u8]) {
+pub fn length<W: Write>(to: &mut W, line: &[u8]) -> io::Result<()> {
     let code = byte(field(line, 1));
     let rate = byte(field(line, 2));
     let info = number(field(line, 3)) as usize;
     let answer = encoder::punctured_coded_len_with(code, info, rate);
-    print_number(count_number(answer), 16);
+    print_number(to, count_number(answer), 16)
 }
 
 // `b CODE RATE COUNT READINGS ROOM SCRATCH`: the info count, the readings' bytes, and the lengths of the output and
 // of the scratch. Prints the answer, the output and the scratch.
-pub fn readings(line: &[u8]) {
+pub fn readings<W: Write>(to: &mut W, line: &[u8]) -> io::Result<()> {
     let mut bytes = lent_long();
     let n = fill(field(line, 4), &mut bytes);
     let mut out_room = lent();
@@ -62,11 +64,11 @@ pub fn readings(line: &[u8]) {
     let rate = byte(field(line, 2));
     let info = number(field(line, 3)) as usize;
     let answer = readings::viterbi_decode_bytes(code, &bytes[0..n], info, rate, out, scratch);
-    print_both(word_number(answer), out, scratch);
+    print_both(to, word_number(answer), out, scratch)
 }
 
 // `i CODE RATE COUNT READINGS ROOM SCRATCH`: the same of readings that are signed bytes.
-pub fn signed(line: &[u8]) {
+pub fn signed<W: Write>(to: &mut W, line: &[u8]) -> io::Result<()> {
     let mut readings = [0; SHORT];
     let n = fill_signed(field(line, 4), &mut readings);
     let mut out_room = lent();
@@ -79,12 +81,12 @@ pub fn signed(line: &[u8]) {
     let rate = byte(field(line, 2));
     let info = number(field(line, 3)) as usize;
     let answer = viterbi_decode_signed_with(code, &readings[0..n], info, rate, out, scratch);
-    print_both(signed_answers::word_number(answer), out, scratch);
+    print_both(to, signed_answers::word_number(answer), out, scratch)
 }
 
 // `s COMPONENTS ROOM SCRATCH`: the components' bytes, and the lengths of the output and of the scratch. Prints the
 // same.
-pub fn soft(line: &[u8]) {
+pub fn soft<W: Write>(to: &mut W, line: &[u8]) -> io::Result<()> {
     let mut soft = [0.0; COMPONENTS];
     let n = fill_floats(field(line, 1), &mut soft);
     let mut out_room = lent();
@@ -94,11 +96,11 @@ pub fn soft(line: &[u8]) {
     let k = room(field(line, 3), LONG);
     let scratch = &mut scratch_room[0..k];
     let answer = symbols::viterbi_decode(&soft[0..n], out, scratch);
-    print_both(count_number(answer), out, scratch);
+    print_both(to, count_number(answer), out, scratch)
 }
 
 // `h BITS ROOM SCRATCH`: the same of hard bits.
-pub fn hard(line: &[u8]) {
+pub fn hard<W: Write>(to: &mut W, line: &[u8]) -> io::Result<()> {
     let mut bits = lent();
     let n = fill(field(line, 1), &mut bits);
     let mut out_room = lent();
@@ -108,5 +110,5 @@ pub fn hard(line: &[u8]) {
     let k = room(field(line, 3), LONG);
     let scratch = &mut scratch_room[0..k];
     let answer = symbols::viterbi_decode_hard(&bits[0..n], out, scratch);
-    print_both(count_number(answer), out, scratch);
+    print_both(to, count_number(answer), out, scratch)
 }

@@ -6,7 +6,7 @@
 // is no call is answered by `no call`, and one that is longer than the room for it by `too long`.
 #![tactic(auto)]
 
-ghost use Rattle.std.specs.Prelude.{◌≤◌, ◌<◌, length};
+ghost use Rattle.std.specs.Prelude.{◌≡◌, ◌≤◌, ◌<◌, length, take, IfOk, OnErr};
 
 mod blocks;
 mod stream;
@@ -14,73 +14,72 @@ mod varicodes;
 
 use call_lines::fields::find;
 use call_lines::shapes::is_call;
-use libc::{STDIN_FILENO, STDOUT_FILENO};
+use std::io;
+use std::io::{Read, Write};
 
 // What stands in place of the front of a line that is too long.
 const CUT: u8 = 0;
 
 // The call that a letter names.
-fn call(letter: u8, line: &[u8]) {
+fn call<W: Write>(to: &mut W, letter: u8, line: &[u8]) -> io::Result<()> {
     match letter {
-        b'e' => blocks::punctured(line),
-        b'p' => blocks::plain(line),
-        b'l' => blocks::length(line),
-        b'b' => blocks::readings(line),
-        b'i' => blocks::signed(line),
-        b's' => blocks::soft(line),
-        b'h' => blocks::hard(line),
-        b'n' => stream::fresh(),
-        b't' => stream::feed(line),
-        b'u' => stream::flush(line),
-        b'v' => varicodes::word(line),
-        b'd' => varicodes::lookups(line),
-        b'm' => varicodes::fresh(),
-        b'w' => varicodes::write(line),
-        _ => varicodes::read(line),
+        b'e' => blocks::punctured(to, line),
+        b'p' => blocks::plain(to, line),
+        b'l' => blocks::length(to, line),
+        b'b' => blocks::readings(to, line),
+        b'i' => blocks::signed(to, line),
+        b's' => blocks::soft(to, line),
+        b'h' => blocks::hard(to, line),
+        b'n' => stream::fresh(to),
+        b't' => stream::feed(to, line),
+        b'u' => stream::flush(to, line),
+        b'v' => varicodes::word(to, line),
+        b'd' => varicodes::lookups(to, line),
+        b'm' => varicodes::fresh(to),
+        b'w' => varicodes::write(to, line),
+        _ => varicodes::read(to, line),
     }
 }
 
 // What a line that is no comment is answered by.
-fn answer_call(line: &[u8])
+fn answer_call<W: Write>(to: &mut W, line: &[u8]) -> io::Result<()>
     requires { 0 < length line.now }
 {
     let letter = line[0];
     if letter == CUT {
-        io::write_all(STDOUT_FILENO, b"too long");
-        return;
+        return to.write_all(b"too long");
     }
     if is_call(line) {
-        io::write_all(STDOUT_FILENO, &line[0..1]);
-        call(letter, line);
-        return;
+        to.write_all(&line[0..1])?;
+        return call(to, letter, line);
     }
-    io::write_all(STDOUT_FILENO, b"no call");
+    to.write_all(b"no call")
 }
 
 // One line, without its line feed.
-fn answer(line: &[u8]) {
+fn answer<W: Write>(to: &mut W, line: &[u8]) -> io::Result<()> {
     if line.len() > 0 {
         if line[0] != b'#' {
-            answer_call(line);
+            answer_call(to, line)?;
         }
     }
-    io::write_all(STDOUT_FILENO, b"\n");
+    to.write_all(b"\n")
 }
 
 // Each whole line of a text. Answers where the last one ends.
-fn answers(text: &[u8]) -> usize
-    ensures { result ≤ length text.now }
+fn answers<W: Write>(to: &mut W, text: &[u8]) -> io::Result<usize>
+    ensures { IfOk result (λ n. n ≤ length text.now) }
 {
     let mut at = 0;
     while at < text.len() {
         let end = at + find(&text[at..], b'\n');
         if end == text.len() {
-            return at;
+            return Ok(at);
         }
-        answer(&text[at..end]);
+        answer(to, &text[at..end])?;
         at = end + 1;
     }
-    at
+    Ok(at)
 }
 
 // Moves what stands from `from` up to `to` to the front.
@@ -93,13 +92,13 @@ fn move_down(text: &mut [u8], from: usize, to: usize)
 }
 
 // Reads once, behind the kept bytes, and answers how many bytes there are then.
-fn read_more(text: &mut [u8], kept: usize) -> usize
+fn read_more<R: Read>(from: &mut R, text: &mut [u8], kept: usize) -> io::Result<usize>
     requires { kept ≤ length text.old }
-    ensures { (kept ≤ result) × (result ≤ length text.new) }
+    ensures within { IfOk result (λ n. (kept ≤ n) × (n ≤ length text.new)) }
+    ensures keeps { take kept text.new ≡ take kept text.old }
 {
-    let space = &mut text[kept..];
-    let got = libc::read(STDIN_FILENO, space);
-    kept + io::count(got, space)
+    let got = from.read(&mut text[kept..])?;
+    Ok(kept + got)
 }
 
 // A line's front that fills all the room is dropped, but for a mark of it.
@@ -121,42 +120,41 @@ fn mark(text: &mut [u8])
 }
 
 // Answers the whole lines at the front of a text, and keeps the rest: answers how much that is.
-fn keep_rest(text: &mut [u8], end: usize) -> usize
+fn keep_rest<W: Write>(to: &mut W, text: &mut [u8], end: usize) -> io::Result<usize>
     requires { (1 < length text.old) × (end ≤ length text.old) }
-    ensures { result ≤ length text.new }
+    ensures within { IfOk result (λ n. n ≤ length text.new) }
+    ensures err { OnErr result (text.new ≡ text.old) }
 {
-    let used = answers(&text[0..end]);
+    let used = answers(to, &text[0..end])?;
     move_down(text, used, end);
-    cut(text, end - used)
+    Ok(cut(text, end - used))
 }
 
 // The last line, where no line feed ends it.
-fn answer_rest(rest: &[u8]) {
+fn answer_rest<W: Write>(to: &mut W, rest: &[u8]) -> io::Result<()> {
     if rest.len() > 0 {
-        answer(rest);
+        answer(to, rest)?;
     }
+    Ok(())
 }
 
-// Reads to the end of the input. Nothing says that an input ends, so the loop counts its turns down from a number
-// that no run uses up.
-fn answer_all(text: &mut [u8])
+// Reads to the end of the input. Nothing says that an input ends, so the loop has as many turns as no run uses up.
+fn answer_all<R: Read, W: Write>(from: &mut R, to: &mut W, text: &mut [u8]) -> io::Result<()>
     requires { 1 < length text.old }
 {
     let mut kept = 0;
-    let mut turns = u64::MAX;
-    while turns > 0 {
-        let end = read_more(text, kept);
+    for _ in 0..u64::MAX {
+        let end = read_more(from, text, kept)?;
         if end == kept {
-            answer_rest(&text[0..kept]);
-            return;
+            return answer_rest(to, &text[0..kept]);
         }
-        kept = keep_rest(text, end);
-        turns -= 1;
+        kept = keep_rest(to, text, end)?;
     }
+    Ok(())
 }
 
 // The room has a line of 16,384 symbols, digit by digit.
-fn main() {
+fn main(rt: HostRuntime) -> io::Result<()> {
     let mut space = [0u8; 266240];
-    answer_all(&mut space);
+    answer_all(&mut rt.stdin(), &mut rt.stdout(), &mut space)
 }

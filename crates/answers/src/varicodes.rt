@@ -3,32 +3,34 @@ use call_lines::fields::{SHORT, byte, field, fill, find, lent, number, room, sta
 use call_lines::print::{TEXT, print_bytes, print_number, put_number, write_front};
 use queue::{BitQueue, CharQueue, Taken};
 use refusal::{Counted, Put, count_number};
+use std::io;
+use std::io::Write;
 use varicode_reader::{NextChar, Pushed, VaricodeDecoder};
 use varicode_words::Letter;
 use varicode_writer::{NextBit, VaricodeEncoder, Wrote};
 
 // `v BYTE`. Prints its word's bits and length.
-pub fn word(line: &[u8]) {
+pub fn word<W: Write>(to: &mut W, line: &[u8]) -> io::Result<()> {
     let word = varicode_words::varicode_encode(byte(field(line, 1)));
-    print_number(word.bits as u64, 4);
-    print_number(word.len as u64, 2);
+    print_number(to, word.bits as u64, 4)?;
+    print_number(to, word.len as u64, 2)
 }
 
 // `d LENGTH`. Prints each value of that length that is a word, and its byte.
-pub fn lookups(line: &[u8]) {
+pub fn lookups<W: Write>(to: &mut W, line: &[u8]) -> io::Result<()> {
     let len = byte(field(line, 1));
-    let mut value: u32 = 0;
-    while value < 0x1_0000 {
-        lookup(value as u16, len);
-        value += 1;
+    for value in 0..0x1_0000u32 {
+        lookup(to, value as u16, len)?;
     }
+    Ok(())
 }
 
-fn lookup(value: u16, len: u8) {
+fn lookup<W: Write>(to: &mut W, value: u16, len: u8) -> io::Result<()> {
     if let Letter::Byte(b) = varicode_words::varicode_decode(value, len) {
-        print_number(value as u64, 4);
-        print_number(b as u64, 2);
+        print_number(to, value as u64, 4)?;
+        print_number(to, b as u64, 2)?;
     }
+    Ok(())
 }
 
 // A writer and a reader, of which a line's steps use one.
@@ -39,33 +41,33 @@ struct Coders {
 }
 
 // `m`. Prints a fresh writer's record, a fresh reader's, and that of a fresh reader for pauses.
-pub fn fresh() {
-    print_writer(VaricodeEncoder::new());
-    print_reader(VaricodeDecoder::new());
-    print_reader(VaricodeDecoder::for_pauses());
+pub fn fresh<W: Write>(to: &mut W) -> io::Result<()> {
+    print_writer(to, VaricodeEncoder::new())?;
+    print_reader(to, VaricodeDecoder::new())?;
+    print_reader(to, VaricodeDecoder::for_pauses())
 }
 
 // `w SLOTS HEAD COUNT FIRST STEPS`: a writer's record, and what is done with it. Prints an answer for each call,
 // and the record.
-pub fn write(line: &[u8]) {
+pub fn write<W: Write>(to: &mut W, line: &[u8]) -> io::Result<()> {
     let decoder = VaricodeDecoder::new();
     let coders = Coders {
         encoder: writer(line),
         decoder,
     };
-    let after = steps(line, 5, coders);
-    print_writer(after.encoder);
+    let after = steps(to, line, 5, coders)?;
+    print_writer(to, after.encoder)
 }
 
 // `r PAUSES SHIFT LENGTH ZERO SLOTS HEAD COUNT STEPS`: the same of a reader.
-pub fn read(line: &[u8]) {
+pub fn read<W: Write>(to: &mut W, line: &[u8]) -> io::Result<()> {
     let encoder = VaricodeEncoder::new();
     let coders = Coders {
         encoder,
         decoder: reader(line),
     };
-    let after = steps(line, 8, coders);
-    print_reader(after.decoder);
+    let after = steps(to, line, 8, coders)?;
+    print_reader(to, after.decoder)
 }
 
 // The writer's record that a line's first fields spell.
@@ -101,22 +103,22 @@ fn reader(line: &[u8]) -> VaricodeDecoder {
 }
 
 // The steps from a place of the line on.
-fn steps(line: &[u8], from: usize, start: Coders) -> Coders {
+fn steps<W: Write>(to: &mut W, line: &[u8], from: usize, start: Coders) -> io::Result<Coders> {
     let mut coders = start;
     let mut at = start_of(line, from);
     while at < line.len() {
         let end = at + find(&line[at..], b' ');
-        coders = step(coders, &line[at..end]);
+        coders = step(to, coders, &line[at..end])?;
         at = end + 1;
     }
-    coders
+    Ok(coders)
 }
 
 // `oN`, `cN`: an opening, a closing. `bBYTES`, `tN`: bytes written, bits taken out. `iBYTES`, `pN`: bits put in,
 // characters taken out.
-fn step(coders: Coders, text: &[u8]) -> Coders {
+fn step<W: Write>(to: &mut W, coders: Coders, text: &[u8]) -> io::Result<Coders> {
     if text.len() == 0 {
-        return coders;
+        return Ok(coders);
     }
     let letter = text[0];
     let rest = &text[1..];
@@ -124,13 +126,13 @@ fn step(coders: Coders, text: &[u8]) -> Coders {
     match letter {
         b'b' | b'i' => {
             let n = fill(rest, &mut values);
-            calls(coders, letter, &values[0..n])
+            calls(to, coders, letter, &values[0..n])
         }
         b't' | b'p' => {
             let n = room(rest, SHORT);
-            calls(coders, letter, &values[0..n])
+            calls(to, coders, letter, &values[0..n])
         }
-        _ => run(coders, letter, number(rest) as usize),
+        _ => run(to, coders, letter, number(rest) as usize),
     }
 }
 
@@ -142,17 +144,17 @@ struct Called {
 }
 
 // A call for each value, and an answer printed for each. What takes out needs no value.
-fn calls(start: Coders, letter: u8, values: &[u8]) -> Coders {
+fn calls<W: Write>(to: &mut W, start: Coders, letter: u8, values: &[u8]) -> io::Result<Coders> {
     let mut coders = start;
     let mut text = [0u8; TEXT];
     let mut at = 0;
     for i in 0..values.len() {
         let called = call(coders, letter, values[i]);
-        at = put_number(&mut text, at, called.answer);
+        at = put_number(to, &mut text, at, called.answer)?;
         coders = called.coders;
     }
-    write_front(&text, at);
-    coders
+    write_front(to, &text, at)?;
+    Ok(coders)
 }
 
 fn call(coders: Coders, letter: u8, value: u8) -> Called {
@@ -167,15 +169,15 @@ fn call(coders: Coders, letter: u8, value: u8) -> Called {
 }
 
 // An opening or a closing.
-fn run(coders: Coders, letter: u8, n: usize) -> Coders {
+fn run<W: Write>(to: &mut W, coders: Coders, letter: u8, n: usize) -> io::Result<Coders> {
     let encoder = coders.encoder;
     let decoder = coders.decoder;
     let called = match letter {
         b'o' => wrote(encoder.push_preamble(n), decoder),
         _ => wrote(encoder.push_postamble(n), decoder),
     };
-    print_number(called.answer, 1);
-    called.coders
+    print_number(to, called.answer, 1)?;
+    Ok(called.coders)
 }
 
 fn wrote(after: Wrote, decoder: VaricodeDecoder) -> Called {
@@ -231,25 +233,25 @@ fn taken_said(answer: Taken) -> u64 {
 }
 
 // Prints a record: the slots, the head, the count, whether no byte was written.
-fn print_writer(encoder: VaricodeEncoder) {
+fn print_writer<W: Write>(to: &mut W, encoder: VaricodeEncoder) -> io::Result<()> {
     let pending = encoder.pending;
     let slots = pending.slots;
-    print_bytes(&slots);
-    print_number(pending.head as u64, 1);
-    print_number(pending.count as u64, 1);
-    print_number(encoder.first as u64, 1);
+    print_bytes(to, &slots)?;
+    print_number(to, pending.head as u64, 1)?;
+    print_number(to, pending.count as u64, 1)?;
+    print_number(to, encoder.first as u64, 1)
 }
 
 // Prints a record: whether it is for pauses, the word's bits, its length, whether the last was a zero, the slots, the
 // head, the count.
-fn print_reader(decoder: VaricodeDecoder) {
-    print_number(decoder.pauses as u64, 1);
-    print_number(decoder.shift as u64, 4);
-    print_number(decoder.len as u64, 2);
-    print_number(decoder.prev_zero as u64, 1);
+fn print_reader<W: Write>(to: &mut W, decoder: VaricodeDecoder) -> io::Result<()> {
+    print_number(to, decoder.pauses as u64, 1)?;
+    print_number(to, decoder.shift as u64, 4)?;
+    print_number(to, decoder.len as u64, 2)?;
+    print_number(to, decoder.prev_zero as u64, 1)?;
     let chars = decoder.chars;
     let slots = chars.slots;
-    print_bytes(&slots);
-    print_number(chars.head as u64, 1);
-    print_number(chars.count as u64, 1);
+    print_bytes(to, &slots)?;
+    print_number(to, chars.head as u64, 1)?;
+    print_number(to, chars.count as u64, 1)
 }

@@ -1,13 +1,47 @@
 // The relay program: reads its input, calls, and writes the answer's line.
 #![tactic(auto)]
 
-use libc::{STDIN_FILENO, STDOUT_FILENO};
+ghost use Rattle.std.specs.Prelude.{ℕ, ◌<◌, ◌≤◌, length, take, IfOk, IfSome, OnOk, OnErr};
+ghost use Rattle.std.specs.Io.KnownBytes.{Appends, Consumes, IsAtEnd};
+ghost use Rattle.line.specs.Line.{output};
 
-fn main() {
+use std::io;
+use std::io::{Read, Write};
+
+// Reads until the room is full or the input ends, and answers how many bytes stand at the room's front then. After an
+// error what was read before it stands there.
+fn read_full<R: Read>(from: &mut R, space: &mut [u8]) -> io::Result<usize>
+    ensures within { IfOk result (λ n. n ≤ length space.new) }
+    ensures bytes { IfOk result
+        (λ n. Consumes (R.remaining from.old) (R.remaining from.new) (take n space.new)) }
+    ensures end { IfOk result (λ n. n < length space.new → IsAtEnd (R.remaining from.new)) }
+    ensures err { OnErr result
+        ((n : ℕ) × Consumes (R.remaining from.old) (R.remaining from.new) (take n space.new)) }
+{
+    let mut done = 0;
+    while done < space.len() {
+        let n = from.read(&mut space[done..])?;
+        if n == 0 {
+            break;
+        }
+        done += n;
+    }
+    Ok(done)
+}
+
+// Answers an input: where its bytes are known, what is written is the whole output for them.
+fn answer_input<R: Read, W: Write>(from: &mut R, to: &mut W) -> io::Result<()>
+    ensures { OnOk result (IfSome (R.remaining from.old)
+        (λ input. Appends (W.contents to.old) (W.contents to.new) (output input))) }
+{
     let mut space = line::room();
-    let n = io::read_full(STDIN_FILENO, &mut space[..]);
+    let n = read_full(from, &mut space)?;
     let l = line::answer(&space[..n]);
     let bytes = l.bytes;
     let count = l.count;
-    io::write_all(STDOUT_FILENO, &bytes[..count]);
+    to.write_all(&bytes[..count])
+}
+
+fn main(rt: HostRuntime) -> io::Result<()> {
+    answer_input(&mut rt.stdin(), &mut rt.stdout())
 }

@@ -1,0 +1,2 @@
+-- Digits: a number's hex digits, the last first.
+pub mod Digits

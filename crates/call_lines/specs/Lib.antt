@@ -1,0 +1,2 @@
+-- Hex: numbers as answers print them.
+pub mod Hex
