@@ -86,6 +86,14 @@ puts_high_byte e c r high k =
       state = ap writer k.state ∙ sym (high_byte-changes_nothing (writer e) c high);
     }
 
+-- the same of a byte, told by how large it is
+module _ (w : Writer) (b : ℕ) (large : 128 ≤ b) where
+  pub large_byte_said : put_said w (byte b) ≡ refused bad_byte 0
+  large_byte_said = high_byte-refused w (byte b) (byte_high b large)
+
+  pub large_byte_leaves : put_leaves w (byte b) ≡ w
+  large_byte_leaves = high_byte-changes_nothing w (byte b) (byte_high b large)
+
 -- ---- a call that puts n bits behind as many zeros, of which the code has tested whether they fit
 
 module _

@@ -98,6 +98,7 @@ impl VaricodeEncoder {
 
     // A byte's word, after a gap unless it is the first. A byte of 128 or above has no word of its own, and is refused
     // whether or not there is room.
+    #[tactic(auto, using(crate::proofs::Puts::large_byte_said, crate::proofs::Puts::large_byte_leaves))]
     pub fn push_byte(self, b: u8) -> Wrote
         ensures { Puts self (byte b) result }
     {
