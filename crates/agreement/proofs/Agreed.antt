@@ -101,7 +101,9 @@ module _ (code rate info : ℕ) (zs : List ℤ) (range : InRange code rate info 
     few : 127 * coded_length_of code rate info ≤ 2 ^ 24
     few = omega (arith, length-few code rate info short)
 
-    same_word : word (code_of code) (pattern_of code rate) (floats_of zs) info ≡ any.word exactly (code_of code) (pattern_of code rate) zs info
+    same_word :
+        word (code_of code) (pattern_of code rate) (floats_of zs) info
+        ≡ any.word exactly (code_of code) (pattern_of code rate) zs info
     same_word =
         words_agree (code_of code) (code_narrow code).some (pattern_of code rate) (rate_pattern code rate) info zs used_small few
 

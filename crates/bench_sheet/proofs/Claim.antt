@@ -21,8 +21,8 @@ abbrev line_at : ℕ → SheetLine
 line_at n = get_or sheet n (reads [] [])
 
 pub claim : AllHold sheet
-unfolding agreement codeword code_of pattern_of zero_ends letters_from stream_from word score word_of decode_of bits_of ones next_state of_bits add
-    sub neg lt le
+unfolding agreement codeword code_of pattern_of zero_ends letters_from stream_from word score word_of decode_of bits_of ones
+    next_state of_bits add sub neg lt le
 claim =
     more (holds (line_at 0) refl)
     (more (holds (line_at 1) refl)

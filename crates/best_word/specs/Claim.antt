@@ -34,8 +34,12 @@ pub record Exact (code : ConvCode) (p : Keep) (info : ℕ) (readings : List Floa
 
 -- Readings moved towards a codeword: not smaller where it has 0, and not larger where it has 1.
 pub record Towards (sent : List ℕ) (zs moved : List ℤ) : Type 0 where
-  pub at_zero : (i : ℕ) → i < length sent → get_or sent i 0 ≡ 0 → lt_z (get_or moved i (pos 0)) (get_or zs i (pos 0)) ≡ false
-  pub at_one : (i : ℕ) → i < length sent → get_or sent i 0 ≡ 1 → lt_z (get_or zs i (pos 0)) (get_or moved i (pos 0)) ≡ false
+  pub at_zero :
+      (i : ℕ) → i < length sent →
+      get_or sent i 0 ≡ 0 → lt_z (get_or moved i (pos 0)) (get_or zs i (pos 0)) ≡ false
+  pub at_one :
+      (i : ℕ) → i < length sent →
+      get_or sent i 0 ≡ 1 → lt_z (get_or zs i (pos 0)) (get_or moved i (pos 0)) ≡ false
 
 module _ (code : ConvCode) (p : Keep) (info : ℕ) where
   -- how well the codeword of an info word agrees with readings
@@ -52,7 +56,8 @@ module _ (code : ConvCode) (p : Keep) (info : ℕ) where
     -- no equally long word's codeword agrees better
     pub wins : (u : List ℕ) → InfoWord info u → lt_z (score_of v zs) (score_of u zs) ≡ false
     -- among equals it is the one that the tie rule puts first
-    pub first : (u : List ℕ) → InfoWord info u → score_of u zs ≡ score_of v zs → (v ≡ u) ⊎ Ahead (states_of v) (states_of u)
+    pub first :
+        (u : List ℕ) → InfoWord info u → score_of u zs ≡ score_of v zs → (v ≡ u) ⊎ Ahead (states_of v) (states_of u)
 
   -- and of a word v and a score s that came of readings which are these
   pub record Claim (zs : List ℤ) (v : List ℕ) (s : Float) : Type 0 where

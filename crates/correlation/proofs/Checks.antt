@@ -23,7 +23,8 @@ use Rattle.correlation.proofs.Selected.{same_rows, chosen_decodable}
 
 abbrev five : {S : Type 0} → (a b c d e : Bool) → Said S → Said S
 five a b c d e rest =
-    refuse_when a unknown_code (refuse_when b unknown_rate (refuse_when c too_many (refuse_when d short_output (refuse_when e short_scratch rest))))
+    refuse_when a unknown_code
+    (refuse_when b unknown_rate (refuse_when c too_many (refuse_when d short_output (refuse_when e short_scratch rest))))
 
 abbrev first : (a b c d e : Bool) → ℕ
 first a b c d e =

@@ -32,7 +32,8 @@ plain_tells count room =
     (crosses_unless itself (ltb most count) too_many _ (omega arith)
     (λ few. crosses_roomed (2 * count) room (omega (arith, ltb-false most count few))))
 
-pub encode_tells : (code rate count room : ℕ) → door_read (door_number (encode_said code rate count room)) ≡ encode_said code rate count room
+pub encode_tells :
+    (code rate count room : ℕ) → door_read (door_number (encode_said code rate count room)) ≡ encode_said code rate count room
 unfolding encode_said
 encode_tells code rate count room =
     count_tells _

@@ -109,7 +109,8 @@ module _
       Copied bytes old count values' (i + 1)
   copied_goes_on h {x} e {values'} f =
       let value : x ≡ get_or (new bytes old) i nan =
-      e ∙ value_at-is nan bytes i (omega (arith, counted)) ∙ sym (get_or-take (length old) (all_of_bytes bytes) i nan (omega (arith, counted))) in
+      e ∙ value_at-is nan bytes i (omega (arith, counted))
+      ∙ sym (get_or-take (length old) (all_of_bytes bytes) i nan (omega (arith, counted))) in
       record {
         turns = omega arith;
         size = rw f (simp length-set now.size);

@@ -21,7 +21,8 @@ only_nan (inf s) e = cc
 only_nan (fin s m d) e = cc
 
 pub nan_above : (n : ℕ) → infinite < n % 2 ^ 31 → nan ≡ of_bits binary32 n
-nan_above n h = sym (only_nan (of_bits binary32 n) (sym (nan_bits_is binary32 n) ∙ nan_bits_above binary32 n ∙ lt-ltb infinite (n % 2 ^ 31) h))
+nan_above n h =
+    sym (only_nan (of_bits binary32 n) (sym (nan_bits_is binary32 n) ∙ nan_bits_above binary32 n ∙ lt-ltb infinite (n % 2 ^ 31) h))
 
 pub number_below : (n : ℕ) → n % 2 ^ 31 ≤ infinite → T (not (nan_bits binary32 n))
 number_below n h = subst (λ (b : Bool). T (not b)) (sym (nan_bits_above binary32 n ∙ le-ltb infinite (n % 2 ^ 31) h)) tt

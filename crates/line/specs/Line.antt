@@ -1,5 +1,6 @@
 -- The program's whole output for every input. Definitions only.
-use Rattle.std.specs.Prelude.{Bool, not, ◌&&◌, List, [], ◌∷◌, ◌++◌, ℕ, ◌+◌, ◌*◌, ◌%◌, ◌^◌, ltb, eqb, Float, length, get_or, take, drop}
+use Rattle.std.specs.Prelude.{Bool, not, ◌&&◌, List, [], ◌∷◌, ◌++◌, length, get_or, take, drop}
+use Rattle.std.specs.Prelude.{ℕ, ◌+◌, ◌*◌, ◌%◌, ◌^◌, ltb, eqb, Float}
 use Rattle.std.specs.Float.{binary32}
 use Rattle.std.specs.Float.Ieee.{to_bits}
 use Rattle.correlation.specs.Decode as any
@@ -80,7 +81,8 @@ newline = 10 ∷ []
 abbrev pub line_of : Said Float → List ℕ → List ℕ
 line_of (accepted score) bits =
     (((word_space ++ word_text bits) ++ space_score_space) ++ hex_digits 8 (to_bits binary32 score)) ++ newline
-line_of (refused number place) bits = (((refused_space ++ decimal number) ++ space_at_space) ++ decimal place) ++ newline
+line_of (refused number place) bits =
+    (((refused_space ++ decimal number) ++ space_at_space) ++ decimal place) ++ newline
 
 unfoldable pub output : List ℕ → List ℕ
 unfolding line_said word_in hex_digits

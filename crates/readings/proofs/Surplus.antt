@@ -51,7 +51,8 @@ module _ (code rate info : ℕ) (readings : List Float) (room scratch n : ℕ) (
       leaves said_of_front (word (code_of code) (pattern_of code rate) (take n readings) info) old
       ≡ leaves said (word (code_of code) (pattern_of code rate) readings info) old
   surplus_output old =
-      surplus_leaves _ _ old (λ h. word_taken soft (code_of code) (pattern_of code rate) (rate_pattern code rate) readings n info (within h))
+      surplus_leaves _ _ old
+      (λ h. word_taken soft (code_of code) (pattern_of code rate) (rate_pattern code rate) readings n info (within h))
 
   pub surplus_scratch :
       (old : List ℕ) →
@@ -59,4 +60,5 @@ module _ (code rate info : ℕ) (readings : List Float) (room scratch n : ℕ) (
       ≡ leaves said (filled_rows (code_of code) (pattern_of code rate) readings (steps_of (code_of code) info)) old
   surplus_scratch old =
       let steps = steps_of (code_of code) info in
-      surplus_leaves _ _ old (λ h. rows_taken soft (code_of code) (pattern_of code rate) (rate_pattern code rate) readings n steps (within h))
+      surplus_leaves _ _ old
+      (λ h. rows_taken soft (code_of code) (pattern_of code rate) (rate_pattern code rate) readings n steps (within h))

@@ -28,7 +28,8 @@ reading_missing (x ∷ xs) zero h = absurd (omega (arith, h))
 reading_missing (x ∷ xs) (suc n) h = reading_missing xs n (omega arith)
 
 -- past the end a kept place reads the zero
-pub reading_value : {A : Type 0} (nought : A) (readings : List A) (n : ℕ) → value_of nought (reading_at readings n) ≡ get_or readings n nought
+pub reading_value :
+    {A : Type 0} (nought : A) (readings : List A) (n : ℕ) → value_of nought (reading_at readings n) ≡ get_or readings n nought
 unfolding reading_at
 reading_value nought [] n = refl
 reading_value nought (x ∷ xs) zero = refl

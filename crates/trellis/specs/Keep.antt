@@ -1,6 +1,7 @@
 -- Keep patterns: two equally long rows, G0's and G1's, of at least one column. Step t uses column t mod period; a 1
 -- keeps a coded bit, a 0 deletes it. Definitions only.
-use Rattle.std.specs.Prelude.{Bool, true, false, cond, List, [], ◌∷◌, ◌++◌, ◌≡◌, ℕ, zero, suc, ◌+◌, ◌*◌, ◌/◌, ◌%◌, ◌<◌, eqb, length, get_or, take}
+use Rattle.std.specs.Prelude.{Bool, true, false, cond, List, [], ◌∷◌, ◌++◌, length, get_or, take}
+use Rattle.std.specs.Prelude.{◌≡◌, ℕ, zero, suc, ◌+◌, ◌*◌, ◌/◌, ◌%◌, ◌<◌, eqb}
 
 pub record Keep : Type 0 where
   pub row0 : List ℕ
