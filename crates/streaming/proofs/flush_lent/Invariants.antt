@@ -1,0 +1,11 @@
+-- `streaming::flush_lent`: refused for a short output, or the laws of a turn at what is known there. Assumes nothing.
+use Prim.Native.Nat.{◌-◌}
+use Rattle.streaming_steps.specs.Steps.{lag}
+use Rattle.streaming.proofs.Flushing.{Flushing}
+use Rattle.streaming.proofs.flush_lent.Given as goal
+
+abbrev pub invariant-loop : goal.invariant-loop
+invariant-loop l = Flushing l.initial.at l.initial.history l.initial.out l.counter l.at l.history l.out l.written
+
+abbrev pub decreases-loop : goal.decreases-loop
+decreases-loop l = lag - l.counter
