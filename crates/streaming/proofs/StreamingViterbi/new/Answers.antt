@@ -3,12 +3,8 @@ use mathlib.Core.Path.{refl}
 use borrow.Author.Rules.{rules}
 use lib.Ieee.{of_bits}
 use Rattle.streaming.specs.Stream.{fresh}
-use Rattle.streaming.proofs.StreamingViterbi.new.Statement.{statement}
-use Rattle.streaming.proofs.StreamingViterbi.new.Tie as tie
+use Rattle.streaming.proofs.StreamingViterbi.new.Goals as goal
 
-returns : tie.Need-returns
+pub returns : goal.returns
 unfolding of_bits fresh
 returns c = record { state = refl }
-
-pub new_spec : {M : Type 1} → statement M
-new_spec = tie.close (tie.spec (search rules) returns)
