@@ -1,4 +1,5 @@
 -- Behind: the bit. OneSymbol: the answers of a symbol. Running: a decoder fed a list. Flushing: a flush, and its answers.
+-- Lengths: a flush's count is how many bits it writes.
 -- Of states reached from a fresh one: Counters: what the counters come to, and how many bits a flush gives. Way: from a state
 -- to any other. Least: the least metric. Plain: one step without normalisation. Spread: several, and how far apart the
 -- metrics lie after them. Lowered: what normalisation leaves. Bounds: what a metric can come to. Lives: all this whatever

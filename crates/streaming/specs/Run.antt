@@ -1,8 +1,7 @@
 -- A decoder fed a list of symbols, one after the other: the state after them, and the bits that came out. The list
 -- stands last one first. A flush is such a list: as many symbols (0, 0) as the lag. Over any code and lag. Definitions
 -- only.
-use mathlib.Core.List.{List, [], ◌∷◌, ◌++◌}
-use Rattle.std.specs.Prelude.{ℕ, Float, replicate}
+use Rattle.std.specs.Prelude.{List, [], ◌∷◌, ◌++◌, ℕ, Float, replicate}
 use Rattle.f32s.specs.Single.{zero32}
 use Rattle.trellis.specs.declared.ConvCode.{ConvCode}
 use Rattle.streaming.specs.Stream.{State, fed, given}

@@ -1,6 +1,5 @@
 -- What `feed_symbol` and `flush` answer, and what they leave, for every state and symbol. Definitions only.
-use Rattle.std.proofs.Math.Bool.{cond}
-use Rattle.std.specs.Prelude.{List, [], ◌∷◌, ◌≡◌, ℕ, ltb, Float, length}
+use Rattle.std.specs.Prelude.{cond, List, [], ◌∷◌, ◌≡◌, ℕ, ltb, Float, length}
 use Rattle.f32s.specs.Single.{within}
 use Rattle.refusal.specs.Answer.{Said, accepted, refused, refuse_when}
 use Rattle.refusal.specs.Numbers.{short_output, bad_component}

@@ -1,9 +1,6 @@
 -- The streaming decoder, symbol by symbol: its state, what a symbol makes of it, and the bit that comes out. Over any
 -- code and lag. Definitions only.
-use Rattle.std.proofs.Math.Bool.{cond}
-use mathlib.Core.List.{List, [], ◌∷◌}
-use Prim.Native.Nat.{ℕ, suc, ◌+◌, ◌*◌, ◌%◌, ◌^◌, min}
-use Rattle.std.specs.Prelude.{ltb, Float, replicate}
+use Rattle.std.specs.Prelude.{cond, List, [], ◌∷◌, ℕ, suc, ◌+◌, ◌*◌, ◌%◌, ◌^◌, min, ltb, Float, replicate}
 use Rattle.best_path.specs.Run.{input_into}
 use Rattle.butterflies.specs.Smallest.{smallest}
 use Rattle.symbols.specs.Costs.{started}

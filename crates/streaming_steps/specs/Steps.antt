@@ -1,10 +1,8 @@
 -- What one symbol does to the metrics and the history, over any code: add, compare, select; normalisation; survivors
 -- kept, and the way back over them. And the lag that is selected. Definitions only.
-use Rattle.std.specs.Prelude.{cond, ℕ, zero, suc, ◌+◌, ◌-◌, ◌*◌, ◌%◌, eqb, Float, set}
-use mathlib.Core.List.{List, map}
+use Rattle.std.specs.Prelude.{cond, List, map, ℕ, zero, suc, ◌+◌, ◌-◌, ◌*◌, ◌%◌, eqb, Float, get_or, set}
 use Rattle.std.specs.Float.{nan, binary32}
 use Rattle.std.specs.Float.Ieee.{sub, lt}
-use Rattle.std.proofs.Math.ListN.{get_or}
 use Rattle.best_path.specs.Step.{Cell, step}
 use Rattle.f32s.specs.Single.{zero32}
 use Rattle.butterflies.specs.Smallest.{mark, smallest}

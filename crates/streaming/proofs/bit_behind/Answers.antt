@@ -1,5 +1,6 @@
 -- `streaming::bit_behind`: from the first least state, the lag back, and its top bit. Assumes nothing.
 use native.Mathlib.Omega.{arith}
+use borrow.Author.Rules.{rules}
 use Rattle.streaming.proofs.Behind.{least_is_state, bit_behind_lem}
 use Rattle.streaming.proofs.bit_behind.Goals as goal
 

@@ -1,7 +1,6 @@
 -- `symbols::viterbi_decode`: the refusals in their order, then the decoding. Assumes nothing.
-use mathlib.Core.Path.{refl, sym}
+use mathlib.Core.Path.{refl}
 use native.Mathlib.Omega.{arith}
-use lib.Seq.{length-take-le}
 use Rattle.refusal.proofs.Over.{both_refused}
 use Rattle.symbols.proofs.Answers.{soft_refused, beyond, all_within, finds_decodes}
 use Rattle.symbols.proofs.Components.{no_bits, all_at_hand}
@@ -11,9 +10,6 @@ use Rattle.symbols.proofs.viterbi_decode.Goals as goal
 pub returns-then-number-ne0 : goal.returns-then-number-ne0
 returns-then-number-ne0 c =
     both_refused (soft_refused _ _ _ c.refused_room-number.ensures c.if-number-ne0.true) c.no_count.ensures refl refl
-
-pub slice_bounds-first_beyond-end : goal.slice_bounds-first_beyond-end
-slice_bounds-first_beyond-end c = sym (length-take-le _ _ (omega arith))
 
 pub overflow_cast-place : goal.overflow_cast-place
 overflow_cast-place c =

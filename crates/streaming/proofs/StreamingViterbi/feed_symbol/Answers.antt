@@ -1,4 +1,5 @@
 -- `StreamingViterbi::feed_symbol`: the history is lent and comes back. Assumes nothing.
+use borrow.Author.Rules.{rules}
 use Rattle.streaming.proofs.StreamingViterbi.feed_symbol.Goals as goal
 
 pub returns : goal.returns

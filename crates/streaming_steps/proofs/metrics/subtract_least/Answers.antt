@@ -3,14 +3,8 @@ use native.Mathlib.Omega.{arith}
 use Rattle.streaming_steps.proofs.Normal.{lowering_starts, lowering_goes_on, lowering_ends, none_subtracted}
 use Rattle.streaming_steps.proofs.metrics.subtract_least.Goals as goal
 
-pub least_of-least-requires : goal.least_of-least-requires
-least_of-least-requires c = tt
-
 pub loop-s-init : goal.loop-s-init
 loop-s-init c = lowering_starts
-
-pub lower-requires : goal.lower-requires
-lower-requires c = tt
 
 pub loop-s-preserved : goal.loop-s-preserved
 loop-s-preserved c =

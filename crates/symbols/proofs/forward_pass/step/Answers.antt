@@ -1,22 +1,15 @@
 -- `symbols::forward_pass::step`: the laws of a turn at what is known there. Assumes nothing.
 use native.Mathlib.Omega.{arith}
-use lib.ListN.{length-set}
 use Rattle.symbols.proofs.Turn.{turns_start, turns_go_on, turns_end}
 use Rattle.symbols.proofs.forward_pass.step.Goals as goal
 
 pub loop-n-init : goal.loop-n-init
 loop-n-init c = turns_start
 
-pub bounds-row-n-in-loop-n : goal.bounds-row-n-in-loop-n
-bounds-row-n-in-loop-n c = simp length-set (omega arith)
-
 pub loop-n-preserved : goal.loop-n-preserved
 loop-n-preserved c =
     turns_go_on c.loop-n.invariant c.loop-n-test.true c.prices_of-prices.ensures c.cost_of_pair-x.ensures
     c.cost_of_pair-y.ensures c.butterfly-w.ensures (search) (search)
-
-pub shape_of-row : goal.shape_of-row
-shape_of-row c = c.loop-n.invariant.paired.size
 
 pub returns : goal.returns
 returns c =

@@ -1,11 +1,6 @@
 -- `symbols::forward_pass::step`: the laws of a turn at what is known there. Assumes nothing.
-use Prim.Native.Nat.{◌-◌}
-use Rattle.symbols.specs.Inner.{half}
 use Rattle.symbols.proofs.Turn.{Turns}
 use Rattle.symbols.proofs.forward_pass.step.Given as goal
 
 abbrev pub invariant-loop-n : goal.invariant-loop-n
 invariant-loop-n l = Turns l.c0 l.c1 l.re l.im l.pm l.initial.next l.initial.row l.next l.row l.s l.n
-
-abbrev pub decreases-loop-n : goal.decreases-loop-n
-decreases-loop-n l = half - l.n
