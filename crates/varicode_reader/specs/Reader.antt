@@ -1,6 +1,7 @@
 -- The two Varicode readers: what each bit brings, and the queue of 64 characters that they go through. They differ in
 -- one definition, when a zero ends a word. Definitions only.
-use Rattle.std.specs.Prelude.{Bool, false, cond, ◌&&◌, ◌||◌, List, [], ◌∷◌, ◌++◌, ℕ, ◌+◌, ◌-◌, ◌*◌, ◌/◌, ◌%◌, min, ltb, eqb, length}
+use Rattle.std.specs.Prelude.{Bool, false, cond, ◌&&◌, ◌||◌, ltb, eqb, List, [], ◌∷◌, ◌++◌, length}
+use Rattle.std.specs.Prelude.{ℕ, ◌+◌, ◌-◌, ◌*◌, ◌/◌, ◌%◌, min}
 use Rattle.queue.specs.Ring.{Ring, empty, read_as, put_all, char_room}
 use Rattle.queue.specs.Take.{left}
 use Rattle.refusal.specs.Answer.{Said, accepted, refuse_when}

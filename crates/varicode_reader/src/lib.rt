@@ -51,6 +51,7 @@ fn count_up(len: u8) -> u8
 }
 
 // A reader that has heard nothing, with no characters.
+#[tactic(auto, unfolding(crate::specs::Reader::fresh_reader))]
 fn fresh(pauses: bool) -> VaricodeDecoder
     ensures { reader result ≡ fresh_reader pauses }
 {
@@ -79,6 +80,7 @@ impl VaricodeDecoder {
     }
 
     // A received bit.
+    #[tactic(auto, unfolding(crate::specs::Reader::bit_said, crate::specs::Reader::bit_leaves))]
     pub fn push_bit(self, bit: u8) -> Pushed
         ensures { Pushes self bit result }
     {
@@ -100,6 +102,7 @@ impl VaricodeDecoder {
     }
 
     // Whether a zero ends the word: the second zero of a gap, or, for pauses, one while nothing is heard.
+    #[tactic(auto, unfolding(crate::specs::Reader::zero_ends))]
     fn zero_ends(self) -> bool
         ensures { result ≡ zero_ends self.pauses (read_heard (reader self).heard) }
     {
@@ -113,6 +116,7 @@ impl VaricodeDecoder {
     }
 
     // A zero that ends the word: that is looked up without its trailing zero, and everything forgotten.
+    #[tactic(auto, using(crate::proofs::Bits::word_ends))]
     fn end_word(self) -> Pushed
         requires { zero_ends self.pauses (read_heard (reader self).heard) ≡ true }
         ensures { Pushes self 0 result }
@@ -170,6 +174,7 @@ impl VaricodeDecoder {
     }
 
     // The next character, taken out.
+    #[tactic(auto, unfolding(queue::specs::Take::taken, queue::specs::Take::left))]
     pub fn pop_char(self) -> NextChar
         ensures { GivesChar self result }
     {

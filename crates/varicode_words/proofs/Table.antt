@@ -66,7 +66,8 @@ module _ {A : Type 0} where
   passes test i (x ∷ xs) = test i x && passes test (suc i) xs
 
   passes_from :
-      (test : ℕ → A → Bool) (xs : List A) (i : ℕ) → T (passes test i xs) → (k : ℕ) (d : A) → k < length xs → T (test (i + k) (get_or xs k d))
+      (test : ℕ → A → Bool) (xs : List A) (i : ℕ) → T (passes test i xs) →
+      (k : ℕ) (d : A) → k < length xs → T (test (i + k) (get_or xs k d))
   passes_from test [] i t k d h = absurd (not-suc-le-zero h)
   passes_from test (x ∷ xs) i t zero d h = subst (λ (n : ℕ). T (test n x)) (omega arith) (both (test i x) (passes test (suc i) xs) t).0
   passes_from test (x ∷ xs) i t (suc k) d h =

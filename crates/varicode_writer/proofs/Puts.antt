@@ -140,7 +140,8 @@ length-closing first n = length-append (gap first) (replicate n 1) ∙ ap (λ (k
 pub length-byte : (first : Bool) (b : ℕ) → length (bits_put first (byte b)) ≡ length (gap first) + length_of (word_of b)
 unfolding bits_put bits_of
 length-byte first b =
-    length-append (gap first) (bits_of (word_of b)) ∙ ap (λ (k : ℕ). length (gap first) + k) (length_digits (length_of (word_of b)) (word_of b))
+    length-append (gap first) (bits_of (word_of b))
+    ∙ ap (λ (k : ℕ). length (gap first) + k) (length_digits (length_of (word_of b)) (word_of b))
 
 -- a gap of as many zeros as it is long, and then the rest
 spaced :
