@@ -10,7 +10,7 @@ use lib.ListN.{length, replicate}
 use Rattle.binary.proofs.Values.{Bits}
 use Rattle.queue.specs.Ring.{inside, elements, bit_room}
 use Rattle.varicode_words.proofs.Facts.{any_word_length}
-use Rattle.varicode_writer.specs.Writer.{Call, opening, byte, closing, gap}
+use Rattle.varicode_writer.specs.Writer.{Call, opening, closing, gap}
 use Rattle.varicode_writer.proofs.Puts.{opening_not_high, closing_not_high, low_byte_not_high, not_high_byte_low}
 use Rattle.varicode_writer.proofs.Puts.{length-opening, length-byte, length-closing}
 use Rattle.read_back.specs.Runs.{Text, none, more, written, Relayed, Fits, AllFit, OpeningsFit, BytesFit, ClosingsFit}

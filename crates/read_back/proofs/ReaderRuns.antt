@@ -15,9 +15,9 @@ use Rattle.queue.proofs.Handed.{handed, kept, behind}
 use Rattle.refusal.specs.Answer.{accepted, refuse_when}
 use Rattle.refusal.specs.Numbers.{bad_bit, queue_full}
 use Rattle.refusal.proofs.Told.{accepted_past, accepted_passed}
-use Rattle.varicode_reader.specs.Reader.{Heard, nothing_heard, ends, letter_at, heard_after, joined_to, brings_from, letters_from, read_heard}
+use Rattle.varicode_reader.specs.Reader.{Heard, nothing_heard, ends, letter_at, heard_after, joined_to, read_heard}
+use Rattle.varicode_reader.specs.Reader.{brings_from, letters_from}
 use Rattle.varicode_reader.specs.Reader.{Reader, fresh_reader, brought, no_room, with_letter, bit_said, bit_leaves, char_leaves}
-use Rattle.varicode_reader.proofs.Bits.{made}
 use Rattle.read_back.specs.Runs.{ReaderRun, start, feeds, takes, finds_none}
 
 -- what is heard after several bits
@@ -37,7 +37,8 @@ module _ (p : Bool) where
   letters_snoc h [] b = append-nil (letter_at p h b)
   letters_snoc h (a ∷ bits) b =
       ap (λ (l : List ℕ). letter_at p h a ++ l) (letters_snoc (heard_after p h a) bits b)
-      ∙ sym (append_assoc (letter_at p h a) (letters_from p (heard_after p h a) bits) (letter_at p (heard_all p (heard_after p h a) bits) b))
+      ∙ sym
+      (append_assoc (letter_at p h a) (letters_from p (heard_after p h a) bits) (letter_at p (heard_all p (heard_after p h a) bits) b))
 
   -- the count of a word's bits stops at 11
   after_short : (h : Heard) (b : ℕ) → (heard_after p h b).len ≤ 11
@@ -58,6 +59,10 @@ pub record ReaderHolds (p : Bool) (r : Reader) (bits out : List ℕ) : Type 0 wh
   pub heard : r.heard ≡ heard_all p nothing_heard bits
   pub short : r.heard.len ≤ 11
   pub order : out ++ inside char_room r.chars ≡ letters_from p nothing_heard bits
+
+-- a reader of these parts
+abbrev made_reader : Bool → Heard → Ring → Reader
+made_reader p h q = record { pauses = p; heard = h; chars = q }
 
 -- a character that has room goes behind the others
 record Gained (letter : List ℕ) (q : Ring) : Type 0 where
@@ -87,7 +92,7 @@ module _ (p : Bool) (r : Reader) (bits out : List ℕ) (h : ReaderHolds p r bits
       let good = accepted_passed (ltb 1 b) bad_bit last tt said in
       let free = accepted_passed (no_room l r.chars) queue_full (accepted tt) tt (accepted_past (ltb 1 b) bad_bit last tt said) in
       let now : read_heard r.heard ≡ heard_all p nothing_heard bits = read_short r.heard h.short ∙ h.heard in
-      let new = made r.pauses (heard_after r.pauses (read_heard r.heard) b) (with_letter l r.chars) in
+      let new = made_reader r.pauses (heard_after r.pauses (read_heard r.heard) b) (with_letter l r.chars) in
       let same : bit_leaves r b ≡ new =
       ap₂ (λ (s t : Bool). cond s r (cond t r new)) good free in
       let brings : l ≡ letter_at p (heard_all p nothing_heard bits) b =
@@ -119,7 +124,7 @@ module _ (p : Bool) (r : Reader) (bits out : List ℕ) (h : ReaderHolds p r bits
 
   reader_finds_none : taken char_room r.chars ≡ [] → ReaderHolds p (char_leaves r) bits out
   reader_finds_none e =
-      subst (λ (q : Ring). ReaderHolds p (made r.pauses r.heard q) bits out) (sym (kept char_room r.chars h.in_range e)) h
+      subst (λ (q : Ring). ReaderHolds p (made_reader r.pauses r.heard q) bits out) (sym (kept char_room r.chars h.in_range e)) h
 
 pub reader_holds : {p : Bool} {r : Reader} {bits out : List ℕ} → ReaderRun p r bits out → ReaderHolds p r bits out
 unfolding fresh_reader letters_from brings_from heard_all

@@ -14,7 +14,8 @@ use lib.ListN.{length, replicate, length-append}
 use lib.Pow.{pow_mono}
 use Rattle.binary.specs.Digits.{value}
 use Rattle.binary.proofs.Values.{value_below, value_snoc}
-use Rattle.varicode_reader.specs.Reader.{Heard, nothing_heard, zero_ends, letter_at, joined_to, heard_after, brings_from, concat, letters_from}
+use Rattle.varicode_reader.specs.Reader.{Heard, nothing_heard, zero_ends, letter_at, joined_to, heard_after}
+use Rattle.varicode_reader.specs.Reader.{brings_from, concat, letters_from}
 use Rattle.varicode_reader.proofs.Ends.{ends_after_zero, goes_on_in_a_word}
 use Rattle.varicode_words.specs.Word.{decode_of}
 use Rattle.varicode_words.proofs.NoWord.{decode_no_bits, sound_bits, long_no_word, long_low_no_word}

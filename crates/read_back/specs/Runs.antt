@@ -12,7 +12,8 @@ use Rattle.varicode_writer.specs.Writer.{Call, opening, byte, closing, gap, bits
 pub data WriterRun : Writer → List Call → List ℕ → Type 0 where
   start : WriterRun fresh_writer [] []
   puts :
-      {w : Writer} {calls : List Call} {out : List ℕ} → WriterRun w calls out → (c : Call) → put_said w c ≡ accepted tt →
+      {w : Writer} {calls : List Call} {out : List ℕ} → WriterRun w calls out →
+      (c : Call) → put_said w c ≡ accepted tt →
       WriterRun (put_leaves w c) (calls ++ c ∷ []) out
   takes :
       {w : Writer} {calls : List Call} {out : List ℕ} → WriterRun w calls out →
