@@ -1,6 +1,5 @@
 -- `streaming::advance`: a step, its survivors kept, the counters, and normalisation. Assumes nothing.
 use mathlib.Core.Path.{refl}
-use borrow.Author.Rules.{rules}
 use Rattle.streaming.proofs.OneSymbol.{parts_fed}
 use Rattle.streaming.proofs.advance.Goals as goal
 

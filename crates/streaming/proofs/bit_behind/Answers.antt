@@ -1,15 +1,11 @@
 -- `streaming::bit_behind`: from the first least state, the lag back, and its top bit. Assumes nothing.
 use native.Mathlib.Omega.{arith}
-use borrow.Author.Rules.{rules}
 use Rattle.streaming.proofs.Behind.{least_is_state, bit_behind_lem}
 use Rattle.streaming.proofs.bit_behind.Goals as goal
 
 pub state_behind-requires : goal.state_behind-requires
 state_behind-requires c =
     record { row_kept = omega arith; state_known = omega (arith, least_is_state _ c.first_least-least.ensures) }
-
-pub top_bit-requires : goal.top_bit-requires
-top_bit-requires c = c.state_behind.ensures.state_known
 
 pub returns : goal.returns
 returns c =

@@ -1,7 +1,6 @@
 -- `streaming::feed_lent`: refused for re, for im; nothing yet, or a bit. Assumes nothing.
 use mathlib.Core.Path.{sym, ◌∙◌}
 use native.Mathlib.Omega.{arith}
-use borrow.Author.Rules.{rules}
 use Rattle.streaming.proofs.OneSymbol.{refused_re, refused_im, nothing_yet, bit_emitted}
 use Rattle.streaming.proofs.feed_lent.Goals as goal
 

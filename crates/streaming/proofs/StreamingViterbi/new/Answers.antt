@@ -1,6 +1,5 @@
 -- `StreamingViterbi::new`: state 0 at 0.0, the others at the mark, and zeros. Assumes nothing.
 use mathlib.Core.Path.{refl}
-use borrow.Author.Rules.{rules}
 use lib.Ieee.{of_bits}
 use Rattle.streaming.specs.Stream.{fresh}
 use Rattle.streaming.proofs.StreamingViterbi.new.Goals as goal
