@@ -1,6 +1,7 @@
 -- Demand 3: the best word wins, first among equals, and it stays. What is claimed of a word and of a call. Definitions
 -- only.
-use Rattle.std.specs.Prelude.{false, cond, List, [], ◌∷◌, ◌⊎◌, ◌≡◌, ℕ, ◌^◌, ◌≤◌, ◌<◌, eqb, Float, ℤ, pos, neg_ℤ, ◌+ℤ◌, length, get_or, take}
+use Rattle.std.specs.Prelude.{false, cond, List, [], ◌∷◌, ◌⊎◌, ◌≡◌, ℕ, ◌^◌, ◌≤◌}
+use Rattle.std.specs.Prelude.{◌<◌, eqb, Float, ℤ, pos, neg_ℤ, ◌+ℤ◌, length, get_or, take}
 use Rattle.std.specs.Int.Signed.{lt_z}
 use Rattle.best_path.specs.Path.{passes, Ahead}
 use Rattle.f32_answers.specs.Answer.{word_said}
