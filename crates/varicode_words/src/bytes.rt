@@ -75,6 +75,7 @@ fn row_of(n: usize) -> u64
 }
 
 // The entry at a place of a row.
+#[tactic(auto, unfolding(crate::specs::Inner::entry_in))]
 fn entry_in(row: u64, place: usize) -> u8
     requires { place < 8 }
     ensures { result ≡ entry_in row place }
@@ -83,6 +84,7 @@ fn entry_in(row: u64, place: usize) -> u8
 }
 
 // The entry of a value.
+#[tactic(auto, using(crate::proofs::Entries::entry_right))]
 pub fn entry_at(value: usize) -> u8
     requires { value < values }
     ensures { Right value result }
@@ -91,6 +93,7 @@ pub fn entry_at(value: usize) -> u8
 }
 
 // The byte in an entry, if it is not the mark.
+#[tactic(auto, unfolding(crate::specs::Inner::byte_in))]
 pub fn letter_of(entry: u8) -> Letter
     ensures { letter_said result ≡ byte_in entry }
 {

@@ -295,6 +295,7 @@ fn word_at(i: usize) -> Word
 }
 
 // The word of a byte; bytes 128 to 255 have byte 0's.
+#[tactic(auto, using(crate::proofs::Facts::word_high))]
 pub fn varicode_encode(byte: u8) -> Word
     ensures { Spells byte result }
 {

@@ -133,6 +133,7 @@ impl VaricodeEncoder {
     }
 
     // The next bit, taken out.
+    #[tactic(auto, unfolding(queue::specs::Take::taken, queue::specs::Take::left))]
     pub fn next_bit(self) -> NextBit
         ensures { GivesBit self result }
     {
