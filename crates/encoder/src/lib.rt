@@ -76,6 +76,16 @@ fn encode_at(code: u8, rate: u8, chosen: Selected, bits: &[u8], steps: usize, ou
 
 // Refusals 1 to 3, which every call with a code, a rate and an info count decides first: the number of the
 // one that it earns, and 0 where it earns none. The limit on info bits is the caller's.
+#[tactic(
+    auto,
+    using(
+        crate::proofs::Checks::no_code,
+        crate::proofs::Checks::no_rate,
+        crate::proofs::Checks::too_many_lem,
+        crate::proofs::Checks::none_refused,
+        trellis::proofs::Chosen::rates_same
+    )
+)]
 pub fn refused_choice(code: u8, rate: u8, info: usize, limit: usize) -> u8
     ensures { Decides limit code rate info result }
 {
