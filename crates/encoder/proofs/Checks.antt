@@ -1,18 +1,22 @@
 -- The refusals in their order: those of a code, a rate and an info count by one number, then each entry's own. Assumes
 -- nothing.
 use mathlib.Core.Bool.{Bool, true, false, cond, not}
+use mathlib.Core.List.{List}
 use mathlib.Core.Path.{◌≡◌, refl, ◌∙◌}
 use Prim.Native.Nat.{ℕ, ◌*◌, ◌≤◌, ◌<◌}
 use native.Mathlib.Omega.{arith}
 use borrow.Author.Tests.{lt-ltb, le-ltb, ltb-false}
 use lib.Dec.{ltb}
-use Rattle.refusal.specs.Answer.{Said, accepted, refused, refuse_when}
+use lib.ListN.{length}
+use Rattle.refusal.specs.declared.Counted.{Counted}
+use Rattle.refusal.specs.Answer.{Said, accepted, refused, refuse_when, count_said, Counts}
 use Rattle.refusal.specs.Limits.{most}
 use Rattle.refusal.specs.Numbers.{unknown_code, unknown_rate, too_many, short_output}
 use Rattle.refusal.proofs.Told.{accepted_past}
 use Rattle.trellis.specs.Choice.{codes, known_code, rates_of, known_rate}
 use Rattle.encoder.specs.Encode.{coded_length_of, checked_to, choice_refusal, checked, length_said, encode_said, plain_said}
-use Rattle.encoder.specs.Promise.{Decides}
+use Rattle.encoder.specs.Promise.{Decides, EncodesPlain}
+use Rattle.refusal.proofs.Over.{writes_refused}
 
 -- ---- the number of the refusal, test by test
 
@@ -139,3 +143,18 @@ plain_short count room few h = rw (le-ltb most count few, lt-ltb room (2 * count
 pub plain_fits : (count room : ℕ) → count ≤ most → 2 * count ≤ room → plain_said count room ≡ accepted (2 * count)
 unfolding plain_said
 plain_fits count room few h = rw (le-ltb most count few, le-ltb room (2 * count) h)
+
+-- ---- a promise that is kept by a refusal, as a tactic is to apply it: the call gives the refusal, and leaves the buffer
+
+pub plain_refuses_many :
+    (r : Counted) (bits given : List ℕ) →
+    most < length bits → count_said r ≡ refused too_many 0 → EncodesPlain (Counts r) bits (record { given = given; left = given })
+plain_refuses_many r bits given many says =
+    writes_refused (plain_many (length bits) (length given) many) says refl
+
+pub plain_refuses_short :
+    (r : Counted) (bits given : List ℕ) →
+    length bits ≤ most → length given < 2 * length bits → count_said r ≡ refused short_output 0 →
+    EncodesPlain (Counts r) bits (record { given = given; left = given })
+plain_refuses_short r bits given few short says =
+    writes_refused (plain_short (length bits) (length given) few short) says refl

@@ -132,6 +132,10 @@ pub fn conv_encode_punctured_with(code: u8, info: &[u8], rate: u8, out: &mut [u8
 }
 
 // The coded bits of K5 at rate 1/2 with no tail: two for each input.
+#[tactic(
+    auto,
+    using(crate::proofs::Checks::plain_refuses_many, crate::proofs::Checks::plain_refuses_short)
+)]
 pub fn conv_encode(bits: &[u8], out: &mut [u8]) -> Counted
     ensures { EncodesPlain (Counts result) bits.now (lent out) }
 {

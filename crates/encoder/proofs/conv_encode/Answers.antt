@@ -7,12 +7,6 @@ use Rattle.encoder.proofs.Checks.{plain_many, plain_short, plain_fits}
 use Rattle.encoder.proofs.Selected.{length-plain, plain_left}
 use Rattle.encoder.proofs.conv_encode.Goals as goal
 
-pub returns-then-count-gt-MOST : goal.returns-then-count-gt-MOST
-returns-then-count-gt-MOST c = writes_refused (plain_many _ _ (omega arith)) c.no_count.ensures refl
-
-pub returns-then-out-twice : goal.returns-then-out-twice
-returns-then-out-twice c = writes_refused (plain_short _ _ (omega arith) (omega arith)) c.no_count-then-out-twice.ensures refl
-
 pub encode_at-requires : goal.encode_at-requires
 encode_at-requires c =
     record { chooses = c.choose.ensures; room = omega (arith, length-plain (length c.args.bits.now)) }

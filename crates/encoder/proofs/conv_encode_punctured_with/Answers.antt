@@ -31,10 +31,10 @@ returns-then-out-need c =
 
 pub encode_at-requires : goal.encode_at-requires
 encode_at-requires c =
-    ready_at c.choose-chosen.ensures c.coded_len-need.ensures c.if-out-need.false
+    ready_at c.choose-chosen.ensures c.coded_len-need.ensures (omega arith)
 
 pub returns : goal.returns
 returns c =
     let need = c.coded_len-need.ensures ∙ length-chosen c.choose-chosen.ensures _ in
-    writes_accepted (encode_fits c.refused_choice-number.ensures c.if-number-ne0.false need _ c.if-out-need.false) refl
+    writes_accepted (encode_fits c.refused_choice-number.ensures c.if-number-ne0.false need _ (omega arith)) refl
     (codeword_left c.choose-chosen.ensures c.encode_at.ensures)

@@ -35,7 +35,7 @@ decode-score-requires c =
     let ready = rw c.requires at c.prepare-ready.ensures in
     record {
       shaped = call_decodable ready c.if-ready-ne0.false refl refl;
-      used = used_finite _ ready c.if-ready-ne0.false c.first_bad-bad.ensures c.if-bad-ready.false;
+      used = used_finite _ ready c.if-ready-ne0.false c.first_bad-bad.ensures (omega arith);
     }
 
 pub returns : goal.returns
@@ -43,5 +43,5 @@ returns c =
     let ready = rw c.requires at c.prepare-ready.ensures in
     let found = finds_selected ready.chosen ready.halved c.decode-score.ensures in
     finds_decodes _ _ _ _ _
-    (good_readings _ _ _ _ _ _ _ _ _ ready c.if-ready-ne0.false c.first_bad-bad.ensures c.if-bad-ready.false)
+    (good_readings _ _ _ _ _ _ _ _ _ ready c.if-ready-ne0.false c.first_bad-bad.ensures (omega arith))
     (ap accepted found.scored) found

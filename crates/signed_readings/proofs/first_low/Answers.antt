@@ -8,11 +8,11 @@ loop-i-init c = low_sought_starts
 
 pub returns-then-reading-ltminus127 : goal.returns-then-reading-ltminus127
 returns-then-reading-ltminus127 c =
-    low_here c.loop-i.invariant (omega arith) (search) c.if-reading-ltminus127.true
+    low_here c.loop-i.invariant (omega arith) (search) (search)
 
 pub loop-i-preserved : goal.loop-i-preserved
 loop-i-preserved c =
-    low_sought_goes_on c.loop-i.invariant (omega arith) (search) c.if-reading-ltminus127.false
+    low_sought_goes_on c.loop-i.invariant (omega arith) (search) (search)
 
 pub returns : goal.returns
 returns c = none_low c.loop-i.invariant (omega arith) c.loop-i.invariant.sought.reached

@@ -34,7 +34,7 @@ decode-score-requires c =
     let ready = c.prepare-ready.ensures in
     record {
       shaped = call_decodable ready c.if-ready-ne0.false refl refl;
-      bytes = used_bytes _ ready c.if-ready-ne0.false c.first_low-low.ensures c.if-low-ready.false;
+      bytes = used_bytes _ ready c.if-ready-ne0.false c.first_low-low.ensures (omega arith);
     }
 
 pub returns : goal.returns
@@ -43,5 +43,5 @@ returns c =
     let finds = c.decode-score.ensures in
     let found = finds_selected ready.chosen ready.halved finds.found in
     finds_decodes _ _ _ _ _
-    (good_readings _ _ _ _ _ _ _ _ _ ready c.if-ready-ne0.false c.first_low-low.ensures.place c.if-low-ready.false)
+    (good_readings _ _ _ _ _ _ _ _ _ ready c.if-ready-ne0.false c.first_low-low.ensures.place (omega arith))
     (scored_back found.scored (omega (arith, finds.small, sums_fit ready c.if-ready-ne0.false))) found
