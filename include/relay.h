@@ -19,7 +19,7 @@
  *   answer >> 32         0, or the refusal's number
  *   (uint32_t)answer     the count or the score's bits, or the place
  *
- * That these two tell every answer of every door is proved (doorRead, docs/ENTRIES.md).
+ * That these two tell every answer of every door is proved (door_read, docs/ENTRIES.md).
  *
  *   1   the code is above 2
  *   2   the rate is above 4

@@ -1,6 +1,6 @@
 -- Of each function, any two outcomes that its contract allows are equal. `Post` is the contract as the prover reads it: of
--- what the call is given, what it returns, and what it leaves in each argument. The two in place are walks by hand, of which
--- the prover reads no `Post`: their laws are over the records that their contracts cite. Assumes nothing.
+-- what the call is given, what it returns, and what it leaves in each argument. The laws of the two in place are over
+-- the records that their contracts cite. Assumes nothing.
 use mathlib.Core.List.{List}
 use mathlib.Core.Path.{◌≡◌, sym, ◌∙◌}
 use Prim.Native.Nat.{ℕ}

@@ -1,7 +1,6 @@
 -- Of each entry, any two outcomes that its contract allows are equal. `Post` is the contract as the prover reads it: of what
 -- the call is given, what it returns, and what it leaves in each argument. `held` tells two decoders apart, field by field.
--- The entries in place are walks by hand, of which the prover reads no `Post`: their laws are over the records that their
--- contracts cite. Assumes nothing.
+-- The laws of the entries in place are over the records that their contracts cite. Assumes nothing.
 use mathlib.Core.List.{List}
 use mathlib.Core.Path.{◌≡◌, ap, ap₂, sym, ◌∙◌}
 use Prim.Native.Nat.{ℕ}
