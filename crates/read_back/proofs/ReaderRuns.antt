@@ -17,6 +17,7 @@ use Rattle.refusal.specs.Numbers.{bad_bit, queue_full}
 use Rattle.refusal.proofs.Told.{accepted_past, accepted_passed}
 use Rattle.varicode_reader.specs.Reader.{Heard, nothing_heard, ends, letter_at, heard_after, joined_to, read_heard}
 use Rattle.varicode_reader.specs.Reader.{brings_from, letters_from}
+use Rattle.varicode_reader.proofs.Bits.{made}
 use Rattle.varicode_reader.specs.Reader.{Reader, fresh_reader, brought, no_room, with_letter, bit_said, bit_leaves, char_leaves}
 use Rattle.read_back.specs.Runs.{ReaderRun, start, feeds, takes, finds_none}
 
@@ -60,10 +61,6 @@ pub record ReaderHolds (p : Bool) (r : Reader) (bits out : List ℕ) : Type 0 wh
   pub short : r.heard.len ≤ 11
   pub order : out ++ inside char_room r.chars ≡ letters_from p nothing_heard bits
 
--- a reader of these parts
-abbrev made_reader : Bool → Heard → Ring → Reader
-made_reader p h q = record { pauses = p; heard = h; chars = q }
-
 -- a character that has room goes behind the others
 record Gained (letter : List ℕ) (q : Ring) : Type 0 where
   pub in_range : InRange char_room (with_letter letter q)
@@ -92,7 +89,7 @@ module _ (p : Bool) (r : Reader) (bits out : List ℕ) (h : ReaderHolds p r bits
       let good = accepted_passed (ltb 1 b) bad_bit last tt said in
       let free = accepted_passed (no_room l r.chars) queue_full (accepted tt) tt (accepted_past (ltb 1 b) bad_bit last tt said) in
       let now : read_heard r.heard ≡ heard_all p nothing_heard bits = read_short r.heard h.short ∙ h.heard in
-      let new = made_reader r.pauses (heard_after r.pauses (read_heard r.heard) b) (with_letter l r.chars) in
+      let new = made r.pauses (heard_after r.pauses (read_heard r.heard) b) (with_letter l r.chars) in
       let same : bit_leaves r b ≡ new =
       ap₂ (λ (s t : Bool). cond s r (cond t r new)) good free in
       let brings : l ≡ letter_at p (heard_all p nothing_heard bits) b =
@@ -124,7 +121,7 @@ module _ (p : Bool) (r : Reader) (bits out : List ℕ) (h : ReaderHolds p r bits
 
   reader_finds_none : taken char_room r.chars ≡ [] → ReaderHolds p (char_leaves r) bits out
   reader_finds_none e =
-      subst (λ (q : Ring). ReaderHolds p (made_reader r.pauses r.heard q) bits out) (sym (kept char_room r.chars h.in_range e)) h
+      subst (λ (q : Ring). ReaderHolds p (made r.pauses r.heard q) bits out) (sym (kept char_room r.chars h.in_range e)) h
 
 pub reader_holds : {p : Bool} {r : Reader} {bits out : List ℕ} → ReaderRun p r bits out → ReaderHolds p r bits out
 unfolding fresh_reader letters_from brings_from heard_all

@@ -2,13 +2,14 @@
 -- Assumes nothing.
 use mathlib.Core.Bool.{true, false}
 use mathlib.Core.Path.{◌≡◌, refl, sym, ap, ◌∙◌}
-use Prim.Native.Nat.{suc, ◌^◌, ◌<◌}
+use Prim.Native.Nat.{suc, ◌-◌, ◌^◌, ◌<◌}
 use native.Mathlib.Omega.{arith}
 use borrow.Author.Tests.{ltb-true, le-ltb}
+use lib.Dec.{T}
 use lib.IntN.{ℤ, pos, negsuc, nat_abs, ◌+ℤ◌}
-use lib.Signed.{lt_z}
+use lib.Signed.{lt_z, non_neg}
 use mir.Syntax.{w32, w64}
-use mir.Val.{SFits, to_z, of_z}
+use mir.Val.{SFits, Fits, to_z, of_z}
 use mir.ValLaws.{to_z-of_z}
 use Rattle.signed_answers.specs.Answer.{twos_complement}
 
@@ -55,6 +56,9 @@ module _ (z : ℤ) (fits : SFits w32 z) (below : lt_z (narrow z fits) (pos 0) �
   is_bits : to_z w64 (of_z w64 sum) ≡ pos (twos_complement z)
   is_bits = to_z-of_z w64 sum sum_fits ∙ is_sum
 
+  pub sum_casts : T (non_neg (to_z w64 (of_z w64 sum))) × Fits w64 (nat_abs (to_z w64 (of_z w64 sum)))
+  sum_casts = rw is_bits (tt, record { fits = omega (arith, bits_few z fits) })
+
   pub sum_bits : nat_abs (to_z w64 (of_z w64 sum)) ≡ twos_complement z
   sum_bits = ap nat_abs is_bits
 
@@ -67,6 +71,9 @@ module _ (z : ℤ) (fits : SFits w32 z) (above : lt_z (narrow z fits) (pos 0) �
 
   is_itself : narrow z fits ≡ pos (twos_complement z)
   is_itself = is_narrow z fits ∙ itself z (sym (ap (λ (x : ℤ). lt_z x (pos 0)) (is_narrow z fits)) ∙ above)
+
+  pub itself_casts : T (non_neg (narrow z fits)) × Fits w64 (nat_abs (narrow z fits))
+  itself_casts = rw is_itself (tt, record { fits = omega (arith, bits_few z fits) })
 
   pub itself_bits : nat_abs (narrow z fits) ≡ twos_complement z
   itself_bits = ap nat_abs is_itself

@@ -1,6 +1,6 @@
 -- The way back, one row at a time: what is left to do is what it was at the start. Assumes nothing.
 use mathlib.Core.List.{List}
-use mathlib.Core.Path.{◌≡◌, sym, ap, ◌∙◌}
+use mathlib.Core.Path.{◌≡◌, refl, sym, ap, ◌∙◌}
 use Prim.Native.Nat.{ℕ, suc, ◌+◌, ◌-◌, ◌*◌, ◌%◌, ◌^◌, ◌≤◌, ◌<◌}
 use native.Mathlib.Nat.{mul_comm, mod-lt}
 use native.Mathlib.Omega.{arith}
@@ -31,6 +31,9 @@ pub record GoingBack (history : List ℕ) (row s i row' s' : ℕ) : Type 0 where
   pub few : i ≤ lag
   pub here : InHistory row' s'
   pub rest : behind (2 ^ k5.width) history row' (lag - i) s' ≡ behind (2 ^ k5.width) history row lag s
+
+pub going_back_starts : {history : List ℕ} {row s : ℕ} → InHistory row s → GoingBack history row s 0 row s
+going_back_starts here = record { few = omega arith; here = here; rest = refl }
 
 module _ {history : List ℕ} {row s i row' s' : ℕ} where
   pub going_back_goes_on :

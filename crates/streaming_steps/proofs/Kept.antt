@@ -4,6 +4,7 @@ use mathlib.Core.Bool.{Bool, true, false, cond}
 use mathlib.Core.List.{List}
 use mathlib.Core.Path.{◌≡◌, refl, sym, ap, ◌∙◌}
 use Prim.Native.Nat.{ℕ, ◌+◌, ◌^◌, ◌≤◌, ◌<◌}
+use native.Mathlib.Nat.{le_antisymm}
 use native.Mathlib.Numerals.{add-one}
 use native.Mathlib.Omega.{arith}
 use lib.Ieee.{Float, nan}
@@ -13,7 +14,7 @@ use Rattle.best_path.proofs.Survivors.{any-default}
 use Rattle.butterflies.specs.Smallest.{mark, smallest}
 use Rattle.trellis.specs.Choice.{k5}
 use Rattle.streaming_steps.specs.Steps.{kept}
-use Rattle.streaming_steps.specs.Inner.{RowAt}
+use Rattle.streaming_steps.specs.Inner.{RowAt, Keeps}
 
 -- the survivor of a state of metric m, and the old entry where no candidate won
 abbrev entry_of : Float → (new old : ℕ) → ℕ
@@ -64,3 +65,8 @@ module _ {pm : List Float} {froms : List ℕ} {at : ℕ} {old : List ℕ} where
           sized = length-set history (at + s) v ∙ so_far.sized;
           entries = kept_next pm froms at s old history inside so_far.entries v e;
         }
+
+    pub keeping_ends :
+        Keeping pm froms at old s history → 2 ^ k5.width ≤ s → Keeps pm froms at (record { given = old; left = history })
+    keeping_ends so_far all =
+        record { entries = so_far.entries ∙ ap (λ (n : ℕ). kept pm froms at n old) (le_antisymm so_far.few all) }

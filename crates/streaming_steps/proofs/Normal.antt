@@ -2,16 +2,22 @@
 use mathlib.Core.Bool.{true, false, cond}
 use mathlib.Core.List.{List, [], ◌∷◌, map}
 use mathlib.Core.Path.{◌≡◌, refl, sym, ap, ap₂, ◌∙◌}
-use Prim.Native.Nat.{ℕ, zero, suc, ◌+◌, ◌^◌, ◌<◌, ◌≤◌}
+use Prim.Native.Nat.{ℕ, zero, suc, ◌+◌, ◌%◌, ◌^◌, ◌-◌, ◌<◌, ◌≤◌}
+use native.Mathlib.Nat.{le_antisymm}
 use native.Mathlib.Numerals.{add-one}
 use native.Mathlib.Omega.{arith}
+use borrow.Author.Tests.{eq-eqb, ne_eqb}
+use lib.Dec.{eqb}
 use lib.Ieee.{Float, nan, lt}
 use lib.ListN.{length, get_or, set, length-set}
+use Rattle.best_path.proofs.Candidates.{where_true, where_false}
 use Rattle.best_path.proofs.Survivors.{any-default}
 use Rattle.f32s.specs.Single.{zero32}
 use Rattle.butterflies.specs.Smallest.{mark}
 use Rattle.trellis.specs.Choice.{k5}
-use Rattle.streaming_steps.specs.Steps.{least_of, lowered, normalised}
+use Rattle.streaming_steps.specs.declared.Front.{Front}
+use Rattle.streaming_steps.specs.Steps.{turns, least_of, lowered, normalised}
+use Rattle.streaming_steps.specs.Inner.{NormalisedAfter}
 
 -- ---- the least metric
 
@@ -37,6 +43,9 @@ module _ {mets : List Float} {s : ℕ} {least : Float} where
             ∙ ap₂ (λ (m l : Float). cond (lt m l) m l) (any-default mets s nan mark inside) so_far.is
             ∙ sym (ap (least_of mets) (add-one s));
       }
+
+  pub least_ends : LeastBelow mets s least → 2 ^ k5.width ≤ s → least ≡ least_of mets (2 ^ k5.width)
+  least_ends so_far all = so_far.is ∙ ap (least_of mets) (le_antisymm so_far.few all)
 
 -- ---- a function on the first n elements of a list
 
@@ -108,3 +117,17 @@ pub none_subtracted :
     mets ≡ normalised (2 ^ k5.width) mets
 unfolding normalised
 none_subtracted e above = cc
+
+-- ---- when it is due
+
+pub normalised_when_due :
+    {turn : ℕ} {front : Front} {pm : List Float} → turn ≡ turns - 1 → pm ≡ normalised (2 ^ k5.width) front.pm →
+    NormalisedAfter turn front (record { pm = pm; count = front.count; turn = front.turn })
+normalised_when_due {turn} e lowers =
+    let due = eqb (turn % turns) (turns - 1) in
+    record { pm = lowers ∙ where_true due _ _ (eq-eqb (turn % turns) (turns - 1) (omega arith)); count = refl; turn = refl }
+
+pub as_it_came : {turn : ℕ} {front : Front} → turn < turns → (turn ≡ turns - 1 → ⊥) → NormalisedAfter turn front front
+as_it_came {turn} h other =
+    let due = eqb (turn % turns) (turns - 1) in
+    record { pm = where_false due _ _ (ne_eqb (turn % turns) (turns - 1) (λ e. other (omega arith))); count = refl; turn = refl }

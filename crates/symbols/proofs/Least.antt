@@ -11,12 +11,13 @@ use native.Mathlib.Numerals.{add-one}
 use native.Mathlib.Omega.{arith}
 use borrow.Author.Tests.{ltb-true, ltb-false}
 use lib.Dec.{ltb}
-use lib.Ieee.{Float, lt, is_nan}
-use lib.ListN.{get_or}
+use lib.Ieee.{Float, nan, lt, is_nan}
+use lib.ListN.{length, get_or}
 use Rattle.f32s.proofs.Ordered.{lt_irrefl, lt_split, lt_numbers, not_lt_smaller, not_lt_trans}
+use Rattle.best_path.proofs.Survivors.{any-default}
 use Rattle.butterflies.specs.Smallest.{mark}
 use Rattle.symbols.specs.Decode.{first_least}
-use Rattle.symbols.specs.Inner.{half, compared_in, LeastIn}
+use Rattle.symbols.specs.Inner.{half, compared, compared_in, LeastIn}
 use Rattle.symbols.specs.declared.forward_pass.Placed.{Placed}
 use Rattle.symbols.proofs.Compared.{compared_number, number_itself, smaller_alike, larger_alike}
 
@@ -52,6 +53,11 @@ module _ {pm : List Float} where
             ap₂ (λ (n : ℕ) (x : Float). lt (compared_in pm n) x) same e ∙ lt_irrefl (compared_in pm s);
         earlier_larger = λ t h k. absurd (omega arith);
       }
+
+  -- the same, read as the code reads
+  pub alone_placed :
+      {s : ℕ} {m : Float} → s < length pm → m ≡ compared s (get_or pm s nan) → LeastIn pm s 1 (record { met = m; state = s })
+  alone_placed {s = s} h e = alone_least refl (e ∙ ap (compared s) (sym (any-default pm s mark nan h)))
 
   module _ {lo n k : ℕ} {a b : Placed} (low : LeastIn pm lo n a) (high : LeastIn pm (lo + n) k b) where
     -- The second is smaller: so it is than all before it in the first range, of which none is below the first.

@@ -1,10 +1,10 @@
--- The refusals 3 to 5 by one number: that it is the refusal, and what has been tested where it is 0. Assumes nothing.
+-- The refusals 3 to 5 by one number: which it is, and what is still tested where it is 0. Assumes nothing.
 use mathlib.Core.Bool.{Bool, true, false, cond}
 use mathlib.Core.List.{List}
 use mathlib.Core.Path.{◌≡◌, refl, sym, ◌∙◌}
-use Prim.Native.Nat.{ℕ, ◌*◌, ◌^◌, ◌≤◌}
+use Prim.Native.Nat.{ℕ, ◌*◌, ◌^◌, ◌≤◌, ◌<◌}
 use native.Mathlib.Omega.{arith}
-use borrow.Author.Tests.{ltb-false}
+use borrow.Author.Tests.{lt-ltb, le-ltb, ltb-false}
 use lib.Dec.{ltb}
 use lib.Ieee.{Float}
 use lib.ListN.{length}
@@ -46,6 +46,28 @@ module _ (count room scratch : ℕ) where
   -- how much scratch so many symbols need
   abbrev need : ℕ
   need = count * 2 ^ k5.width
+
+  -- ---- how the number is found
+
+  pub too_many_lem : most < count → too_many ≡ room_refusal count room scratch
+  unfolding room_refusal
+  too_many_lem h = rw (lt-ltb most count h)
+
+  module _ (few : count ≤ most) where
+    pub no_room : room < count → short_output ≡ room_refusal count room scratch
+    unfolding room_refusal
+    no_room h = rw (le-ltb most count few, lt-ltb room count h)
+
+    module _ (fits : count ≤ room) where
+      pub no_scratch : scratch < need → short_scratch ≡ room_refusal count room scratch
+      unfolding room_refusal
+      no_scratch h = rw (le-ltb most count few, le-ltb room count fits, lt-ltb scratch need h)
+
+      pub room_enough : need ≤ scratch → 0 ≡ room_refusal count room scratch
+      unfolding room_refusal
+      room_enough h = rw (le-ltb most count few, le-ltb room count fits, le-ltb scratch need h)
+
+  -- ---- what it decides
 
   module _ {number : ℕ} (is : number ≡ room_refusal count room scratch) where
     -- a number that is not 0 is the refusal, whatever else would be tested

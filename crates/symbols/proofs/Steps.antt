@@ -5,11 +5,11 @@ use mathlib.Core.Path.{◌≡◌, sym, ap, ap₂, ◌∙◌}
 use Prim.Native.Nat.{ℕ, zero, suc, ◌+◌, ◌-◌, ◌*◌, ◌^◌, ◌≤◌, ◌<◌}
 use native.Mathlib.Omega.{arith}
 use lib.Ieee.{Float, nan}
-use lib.ListN.{length, set, take, drop, replicate, length-replicate}
+use lib.ListN.{length, set, take, drop, replicate, length-append, length-drop, length-replicate}
 use lib.Pow.{pow_pos}
 use Rattle.best_path.specs.Run.{mets_after}
 use Rattle.best_path.proofs.Held.{Held, held_whole, held_mets, held_froms}
-use Rattle.best_path.proofs.Rows.{StateRows, survivor_rows, rows_start, rows_put}
+use Rattle.best_path.proofs.Rows.{StateRows, survivor_rows, length-rows, rows_start, rows_put}
 use Rattle.best_path.proofs.Survivors.{length-mets}
 use Rattle.f32s.specs.Single.{zero32}
 use Rattle.trellis.specs.declared.ConvCode.{ConvCode}
@@ -17,9 +17,9 @@ use Rattle.trellis.specs.Inner.{Halved, Crossed}
 use Rattle.trellis.proofs.States.{states_two_halves}
 use Rattle.butterflies.specs.Smallest.{mark, smallest}
 use Rattle.symbols.specs.Costs.{costs, started}
-use Rattle.symbols.specs.Decode.{symbol_costs, mets, froms, filled_rows}
+use Rattle.symbols.specs.Decode.{symbol_costs, first_least, mets, froms, filled_rows}
 use Rattle.symbols.specs.Inner.{half, new_mets, new_froms, Selects}
-use Rattle.symbols.specs.Inner.{components, symbol_at, Runnable}
+use Rattle.symbols.specs.Inner.{components, symbol_at, Runnable, Runs}
 use Rattle.symbols.specs.declared.phasors.Phasor.{Phasor}
 
 module _ (code : ConvCode) (some : 0 < code.width) (soft : List Float) where
@@ -108,8 +108,28 @@ module _
   abbrev all : List Float
   all = components soft bits
 
+  -- the rows are as long as they were
+  pub rows_sized : length rows ≡ length old
+  rows_sized =
+      let front = length-rows (filled_by shape all) t in
+      ap length now.survivors
+      ∙ simp (length-append, length-drop) (omega (arith, front, now.turns, now.ready.room))
+
+  pub forwarded_ends :
+      count ≤ t → {r : ℕ} → r ≡ first_least pm (2 * half) → Runs code all count r (record { given = old; left = rows })
+  forwarded_ends past {r} found =
+      let end : t ≡ count = omega (arith, now.turns) in
+      let two = two_halves shape all in
+      record {
+        last = found ∙ ap₂ first_least (rw end at now.metrics) (sym two);
+        survivors = rw (two) (rw end at now.survivors);
+      }
+
   -- a symbol
   module _ (h : t < count) where
+    pub row_within : to + 2 * half ≤ length rows
+    row_within = omega (arith, now.place, rows_sized, now.ready.room)
+
     pub forwarded_goes_on :
         {symbol : Phasor} → symbol ≡ symbol_at all t →
         {next next' : List Float} {part : List ℕ} {to' : ℕ} →

@@ -116,7 +116,7 @@ impl VaricodeDecoder {
     }
 
     // A zero that ends the word: that is looked up without its trailing zero, and everything forgotten.
-    #[tactic(auto, using(crate::proofs::Bits::word_ends))]
+    #[tactic(auto, using(crate::proofs::WordEnds::word_ends))]
     fn end_word(self) -> Pushed
         requires { zero_ends self.pauses (read_heard (reader self).heard) ≡ true }
         ensures { Pushes self 0 result }
