@@ -14,6 +14,7 @@ use Rattle.refusal.specs.Limits.{most}
 use Rattle.refusal.specs.Numbers.{unknown_code, unknown_rate, too_many, short_output}
 use Rattle.refusal.proofs.Told.{accepted_past}
 use Rattle.trellis.specs.Choice.{codes, known_code, rates_of, known_rate}
+use Rattle.trellis.proofs.Chosen.{rates_same}
 use Rattle.encoder.specs.Encode.{coded_length_of, checked_to, choice_refusal, checked, length_said, encode_said, plain_said}
 use Rattle.encoder.specs.Promise.{Decides, EncodesPlain}
 use Rattle.refusal.proofs.Over.{writes_refused}
@@ -40,6 +41,9 @@ module _ (limit code rate count : ℕ) where
       unfolding choice_refusal
       none_refused h =
           record { decided = rw (lt-ltb code codes known, lt-ltb rate (rates_of code) known', le-ltb limit count h) }
+
+-- these, as tactics are to apply them
+pub ruleset choices = (no_code, no_rate, too_many_lem, none_refused, rates_same)
 
 -- ---- what it decides
 
@@ -158,3 +162,5 @@ pub plain_refuses_short :
     EncodesPlain (Counts r) bits (record { given = given; left = given })
 plain_refuses_short r bits given few short says =
     writes_refused (plain_short (length bits) (length given) few short) says refl
+
+pub ruleset plain_refusals = (plain_refuses_many, plain_refuses_short)

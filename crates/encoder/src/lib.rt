@@ -76,16 +76,7 @@ fn encode_at(code: u8, rate: u8, chosen: Selected, bits: &[u8], steps: usize, ou
 
 // Refusals 1 to 3, which every call with a code, a rate and an info count decides first: the number of the
 // one that it earns, and 0 where it earns none. The limit on info bits is the caller's.
-#[tactic(
-    auto,
-    using(
-        crate::proofs::Checks::no_code,
-        crate::proofs::Checks::no_rate,
-        crate::proofs::Checks::too_many_lem,
-        crate::proofs::Checks::none_refused,
-        trellis::proofs::Chosen::rates_same
-    )
-)]
+#[tactic(auto, using(crate::proofs::Checks::choices))]
 pub fn refused_choice(code: u8, rate: u8, info: usize, limit: usize) -> u8
     ensures { Decides limit code rate info result }
 {
@@ -132,10 +123,7 @@ pub fn conv_encode_punctured_with(code: u8, info: &[u8], rate: u8, out: &mut [u8
 }
 
 // The coded bits of K5 at rate 1/2 with no tail: two for each input.
-#[tactic(
-    auto,
-    using(crate::proofs::Checks::plain_refuses_many, crate::proofs::Checks::plain_refuses_short)
-)]
+#[tactic(auto, using(crate::proofs::Checks::plain_refusals))]
 pub fn conv_encode(bits: &[u8], out: &mut [u8]) -> Counted
     ensures { EncodesPlain (Counts result) bits.now (lent out) }
 {

@@ -2,8 +2,8 @@
 use mathlib.Core.Path.{refl}
 use native.Mathlib.Omega.{arith}
 use lib.ListN.{length}
-use Rattle.refusal.proofs.Over.{writes_refused, writes_accepted}
-use Rattle.encoder.proofs.Checks.{plain_many, plain_short, plain_fits}
+use Rattle.refusal.proofs.Over.{writes_accepted}
+use Rattle.encoder.proofs.Checks.{plain_fits}
 use Rattle.encoder.proofs.Selected.{length-plain, plain_left}
 use Rattle.encoder.proofs.conv_encode.Goals as goal
 
