@@ -1,15 +1,11 @@
 -- `forward::step`: the laws of a turn at what is known there. Assumes nothing.
 use native.Mathlib.Omega.{arith}
-use lib.ListN.{length-set}
 use Rattle.correlation.proofs.Turn.{turns_start, turns_go_on, turns_end}
 use Rattle.forward.proofs.Lawful.{floats_lawful}
 use Rattle.forward.proofs.step.Goals as goal
 
 pub loop-n-init : goal.loop-n-init
 loop-n-init c = turns_start
-
-pub bounds-row-n-in-loop-n : goal.bounds-row-n-in-loop-n
-bounds-row-n-in-loop-n c = simp length-set (omega arith)
 
 pub loop-n-preserved : goal.loop-n-preserved
 loop-n-preserved c =

@@ -1,6 +1,5 @@
 -- `signed_forward::step`: the laws of a turn at what is known there. Assumes nothing.
 use native.Mathlib.Omega.{arith}
-use lib.ListN.{length-set}
 use Rattle.signed_butterflies.specs.Held.{Byte, Room}
 use Rattle.signed_butterflies.proofs.Words.{back, as_held}
 use Rattle.trellis.proofs.States.{states_two_halves}
@@ -23,9 +22,6 @@ turn-w-requires c =
       even = as_held Room _ (record { sfits = search }) (ready.roomy.each _ (omega (arith, below, states, crossed.halved)));
       odd = as_held Room _ (record { sfits = search }) (ready.roomy.each _ (omega (arith, below, states, crossed.halved)));
     }
-
-pub bounds-row-n-in-loop-n : goal.bounds-row-n-in-loop-n
-bounds-row-n-in-loop-n c = simp length-set (omega arith)
 
 pub loop-n-preserved : goal.loop-n-preserved
 loop-n-preserved c =
