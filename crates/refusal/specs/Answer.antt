@@ -10,6 +10,10 @@ pub data Said (A : Type 0) : Type 0 where
   accepted : A → Said A
   refused : (number place : ℕ) → Said A
 
+-- nothing but that it is done
+abbrev pub done : Said (Unit {0})
+done = accepted tt
+
 -- a refusal's number
 abbrev pub number_of : Refusal → ℕ
 number_of refusal.UnknownCode = unknown_code
