@@ -87,9 +87,10 @@ pub fn refused_choice(code: u8, rate: u8, info: usize, limit: usize) -> Result<(
         return Err(Refusal::UnknownRate);
     }
     if limit < info {
-        return Err(Refusal::TooMany);
+        Err(Refusal::TooMany)
+    } else {
+        Ok(())
     }
-    Ok(())
 }
 
 // How many coded bits an info count gives.

@@ -10,7 +10,7 @@ use lib.Dec.{T, ltb}
 use lib.ListN.{length, get_or, drop, drop_of_length-le}
 use Rattle.refusal.specs.Answer.{Said, accepted, refused}
 use Rattle.std.specs.List.{position, position_or_len}
-use Rattle.std.specs.Prelude.{Option, Some, None}
+use Rattle.std.specs.Prelude.{Some, None}
 use Rattle.refusal.specs.First.{first_bad, FindsBad, refuse_at_bad}
 
 next-is : {E : Type 0} (d : E) (i : ℕ) (xs : List E) → i < length xs → drop i xs ≡ get_or xs i d ∷ drop (suc i) xs
