@@ -98,3 +98,10 @@ pub fn count_number(answer: Result<usize, Refusal>) -> u64
 {
     answer_number(answer.map(|n| n as u64))
 }
+
+// What a call of a coder by value gives: its answer, and the coder after it.
+#[derive(Clone, Copy)]
+pub struct Answered<A, C> {
+    pub answer: A,
+    pub coder: C,
+}
