@@ -204,8 +204,8 @@ pub code_named :
     (number : ℕ) (r : Result Code UnknownCode) → NamesCode number r →
     coding_of (code_number (result_unwrap_or r K5)) ≡ coding_of number
 unfolding coding_of
-code_named number (Ok code) e = ap coding_of e.0
-code_named number (Err x) e = sym (get_or-eq_default codings _ (ltb-false number codes e.1))
+code_named number (Ok code) e = ap coding_of e.numbered
+code_named number (Err x) e = sym (get_or-eq_default codings _ (ltb-false number codes e.unknown))
 
 -- what names no rate selects 1/2
 no_rate : (patterns : List Keep) (rate : ℕ) → ltb rate (length patterns) ≡ false → half ≡ pattern_in patterns rate
@@ -216,10 +216,10 @@ pub rate_named :
     (number : ℕ) (r : Result Rate UnknownRate) → NamesRate number r → (code : Code) →
     pattern_of (code_number code) (rate_number (result_unwrap_or r R1_2)) ≡ pattern_of (code_number code) number
 unfolding pattern_of coding_of pattern_in rates_of
-rate_named number (Ok rate) e code = ap (pattern_of (code_number code)) e.0
-rate_named number (Err x) e K5 = no_rate rust number (e.1 0)
-rate_named number (Err x) e K7 = no_rate rust number (e.1 1)
-rate_named number (Err x) e En300744 = no_rate standard number (e.1 2)
+rate_named number (Ok rate) e code = ap (pattern_of (code_number code)) e.numbered
+rate_named number (Err x) e K5 = no_rate rust number (e.unknown 0)
+rate_named number (Err x) e K7 = no_rate rust number (e.unknown 1)
+rate_named number (Err x) e En300744 = no_rate standard number (e.unknown 2)
 
 -- at rate 1/2 both bits of each step are sent
 pub half_length : (t : ℕ) → coded_length half t ≡ 2 * t

@@ -22,16 +22,27 @@ rate_number R3_4 = 2
 rate_number R5_6 = 3
 rate_number R7_8 = 4
 
--- the code of a number that the table knows; of another number an error that names it
-abbrev pub NamesCode : ℕ → Result Code UnknownCode → Type 0
-NamesCode number r =
-    MatchResult r
-    (λ code. (code_number code ≡ number) × (known_code number ≡ true))
-    (λ e. (e.number ≡ number) × (known_code number ≡ false))
+-- a number that the table knows, and its code
+pub record NumberOfCode (number : ℕ) (code : Code) : Type 0 where
+  pub numbered : code_number code ≡ number
+  pub known : known_code number ≡ true
 
--- the rate of a number that the table knows, with any code; of another number an error that names it
+-- a number that the table does not know, and the error that names it
+pub record NumberOfNoCode (number : ℕ) (e : UnknownCode) : Type 0 where
+  pub named : e.number ≡ number
+  pub unknown : known_code number ≡ false
+
+abbrev pub NamesCode : ℕ → Result Code UnknownCode → Type 0
+NamesCode number r = MatchResult r (NumberOfCode number) (NumberOfNoCode number)
+
+-- the same of rates, which are those of every code
+pub record NumberOfRate (number : ℕ) (rate : Rate) : Type 0 where
+  pub numbered : rate_number rate ≡ number
+  pub known : (code : ℕ) → known_rate code number ≡ true
+
+pub record NumberOfNoRate (number : ℕ) (e : UnknownRate) : Type 0 where
+  pub named : e.number ≡ number
+  pub unknown : (code : ℕ) → known_rate code number ≡ false
+
 abbrev pub NamesRate : ℕ → Result Rate UnknownRate → Type 0
-NamesRate number r =
-    MatchResult r
-    (λ rate. (rate_number rate ≡ number) × ((code : ℕ) → known_rate code number ≡ true))
-    (λ e. (e.number ≡ number) × ((code : ℕ) → known_rate code number ≡ false))
+NamesRate number r = MatchResult r (NumberOfRate number) (NumberOfNoRate number)
