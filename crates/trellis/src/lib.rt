@@ -170,11 +170,11 @@ const STANDARD_7_8: KeepPattern = KeepPattern {
     row1: [1, 1, 1, 1, 0, 1, 0],
 };
 
-// The keep patterns of the Rust, by the rates.
-const RUST: [KeepPattern; 5] = [HALF, RUST_2_3, RUST_3_4, RUST_5_6, RUST_7_8];
+// The keep patterns of the Rust, by the rates. A static: of a const the compiler lays out all five at each call.
+static RUST: [KeepPattern; 5] = [HALF, RUST_2_3, RUST_3_4, RUST_5_6, RUST_7_8];
 
 // Those of EN 300 744.
-const STANDARD: [KeepPattern; 5] = [HALF, STANDARD_2_3, STANDARD_3_4, STANDARD_5_6, STANDARD_7_8];
+static STANDARD: [KeepPattern; 5] = [HALF, STANDARD_2_3, STANDARD_3_4, STANDARD_5_6, STANDARD_7_8];
 
 impl Code {
     // The code of a number, K5 where the number is no code's.
