@@ -7,7 +7,7 @@ ghost use Rattle.trellis.specs.Choice.{coding_of, code_of, pattern_of, held_of, 
 ghost use Rattle.trellis.specs.Keep.{coded_length};
 ghost use Rattle.trellis.specs.Numbers.{code_number, rate_number, NamesCode, NamesRate};
 ghost use Rattle.trellis.specs.State.{window, parity_of, next_state};
-ghost use Rattle.trellis.specs.Inner.{Chooses, Branch, Branched, Halved, SendsEven, OnesIn, Measurable};
+ghost use Rattle.trellis.specs.Inner.{Chooses, Branch, Branched, Halved, SendsEven, OnesIn, Columns, OnesOfColumns, Measurable};
 
 // A code: the register's width K - 1, and the tap words over the window of K bits, whose top bit
 // is the input.
@@ -247,7 +247,7 @@ pub fn conv_code(code: u8) -> ConvCode
 fn parity(w: u32, taps: u32) -> u8
     ensures { result ≡ parity_of taps w }
 {
-    (u32::count_ones(w & taps) % 2) as u8
+    ((w & taps).count_ones() % 2) as u8
 }
 
 // The input bit above the register.
@@ -319,18 +319,20 @@ pub fn next_column(column: usize, period: usize) -> usize
     if next == period { 0 } else { next }
 }
 
-// The ones in the first n columns of a row.
-fn ones_in(row: &[u8; 7], n: usize) -> usize
-    requires { n ≤ 7 }
-    ensures { OnesIn row.now n result }
+fn ones_in(row: &[u8]) -> usize
+    ensures { OnesIn row.now result }
 {
-    let mut count = 0;
-    for i in 0..n {
-        if row[i] == 1 {
-            count += 1;
-        }
+    row.iter().filter(|x| **x == 1).count()
+}
+
+impl KeepPattern {
+    // The ones in the first n columns of both rows.
+    fn ones(&self, n: usize) -> usize
+        requires { Columns self.now n }
+        ensures { OnesOfColumns self.now n result }
+    {
+        ones_in(&self.row0[..n]) + ones_in(&self.row1[..n])
     }
-    count
 }
 
 // Whole periods times the ones in both rows, plus the ones in the columns begun.
@@ -338,10 +340,5 @@ pub fn coded_len(keep: KeepPattern, steps: usize) -> usize
     requires { Measurable keep steps }
     ensures { result ≡ coded_length (keep_of keep) steps }
 {
-    let period = keep.period;
-    let row0 = keep.row0;
-    let row1 = keep.row1;
-    let begun = steps % period;
-    let all = ones_in(&row0, period) + ones_in(&row1, period);
-    steps / period * all + (ones_in(&row0, begun) + ones_in(&row1, begun))
+    steps / keep.period * keep.ones(keep.period) + keep.ones(steps % keep.period)
 }
