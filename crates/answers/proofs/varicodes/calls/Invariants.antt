@@ -2,5 +2,5 @@
 use Rattle.std.proofs.Common.{◌≤◌}
 use Rattle.answers.proofs.varicodes.calls.Given as goal
 
-abbrev pub invariant-loop-i : goal.invariant-loop-i
-invariant-loop-i g l = l.at ≤ 4096
+abbrev pub invariant-loop-value : goal.invariant-loop-value
+invariant-loop-value g l = l.at ≤ 4096
