@@ -2,7 +2,7 @@
 -- never come. Assumes nothing.
 use mathlib.Core.Bool.{true, false, true≢false}
 use mathlib.Core.List.{List, []}
-use mathlib.Core.Path.{◌≡◌, refl, sym, ap, ◌∙◌}
+use mathlib.Core.Path.{◌≡◌, sym, ap, ◌∙◌}
 use Prim.Native.Nat.{ℕ, ◌-◌, ◌≤◌}
 use native.Mathlib.Decide.{dec_lt}
 use native.Mathlib.Nat.{mul-le-mul}
@@ -12,6 +12,7 @@ use lib.Ieee.{Float}
 use lib.ListN.{length, take, drop, replicate}
 use lib.Pow.{pow_mono}
 use lib.Seq.{take_at}
+use Rattle.std.proofs.lemmas.List.{take_rest}
 use Rattle.correlation.proofs.Lengths.{length-word}
 use Rattle.encoder.specs.Promise.{Decides}
 use Rattle.encoder.proofs.Checks.{choice_refused, choice_passes, choice_passes_wider, choice_few}
@@ -34,7 +35,6 @@ use Rattle.trellis.proofs.Chosen.{code_width}
 use Rattle.line.specs.Line.{most_info, most_survivors, shaped, code_in, rate_in, info_in, readings_in}
 use Rattle.line.specs.Line.{line_said, word_in, line_of, output}
 use Rattle.line.specs.Inner.{refusal_in, refusal_said, RefusalIn}
-use Rattle.text.proofs.Written.{rest_taken}
 
 -- ---- the shape of the input
 
@@ -99,7 +99,7 @@ called_behind input is decides passes says =
     record {
       choice = record { is = is; decides = decides };
       passes = passes;
-      behind = rest_taken input 4 (length input) refl;
+      behind = take_rest input 4;
       says = says;
     }
 

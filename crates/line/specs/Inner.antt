@@ -4,9 +4,7 @@ use Rattle.f32_answers.specs.Answer.{word_said}
 use Rattle.f32_answers.specs.declared.Decoded.{Decoded}
 use Rattle.refusal.specs.declared.Refusal.{Refusal}
 use Rattle.refusal.specs.Answer.{Said, accepted, refused}
-use Rattle.line.specs.declared.Line.{Line}
 use Rattle.line.specs.Line.{line_of}
-use Rattle.line.specs.Promise.{Prints}
 
 -- what a refusal says
 abbrev pub refusal_said : Refusal → Said Float
@@ -22,5 +20,5 @@ pub record RefusalIn (answer : Decoded) (r : Refusal) : Type 0 where
   pub same : refusal_said r ≡ refusal_in (word_said answer)
 
 -- `refused_line`, `word_line`: the line of an answer
-abbrev pub PrintsAnswer : Said Float → (word : List ℕ) → Line → Type 0
-PrintsAnswer said word l = Prints (line_of said word) l
+abbrev pub PrintsAnswer : Said Float → (word printed : List ℕ) → Type 0
+PrintsAnswer said word printed = printed ≡ line_of said word

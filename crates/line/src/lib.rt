@@ -9,7 +9,7 @@ ghost use Rattle.line.specs.Inner.{refusal_said, RefusalIn, PrintsAnswer};
 
 use f32_answers::Decoded;
 use refusal::Refusal;
-use text::{put, put_decimal, put_hex, put_word};
+use text::Line;
 
 // The most bytes of an input, and the most info bits that it may ask for.
 const MOST_BYTES: usize = 8192;
@@ -25,12 +25,8 @@ const SURVIVORS: usize = (MOST_INFO + trellis::WIDEST) * trellis::MOST_STATES;
 // The bytes of a line: the longest has 21 more than info bits.
 const LINE_BYTES: usize = MOST_INFO + 24;
 
-// A line stands at the front of its bytes, and zeros behind it.
-#[derive(Clone, Copy)]
-pub struct Line {
-    pub bytes: [u8; LINE_BYTES],
-    pub count: usize,
-}
+// The line of an answer.
+pub type Answer = Line<LINE_BYTES>;
 
 // Room for the program's input.
 pub fn room() -> [u8; ROOM]
@@ -65,33 +61,33 @@ fn refusal_in(answer: Decoded) -> Refusal
     }
 }
 
-fn refused_line(r: Refusal) -> Line
+fn refused_line(r: Refusal) -> Answer
     ensures { PrintsAnswer (refusal_said r) [] result }
 {
-    let mut bytes = [0; LINE_BYTES];
-    let number_at = put(&mut bytes[..], 0, b"refused ");
-    let at_at = put_decimal(&mut bytes[..], number_at, r.number as u32);
-    let place_at = put(&mut bytes[..], at_at, b" at ");
-    let end_at = put_decimal(&mut bytes[..], place_at, r.place);
-    let count = put(&mut bytes[..], end_at, b"\n");
-    Line { bytes, count }
+    let mut line = Line::new();
+    line.put(b"refused ");
+    line.put_decimal(r.number as u32);
+    line.put(b" at ");
+    line.put_decimal(r.place);
+    line.put(b"\n");
+    line
 }
 
-fn word_line(word: &[u8], score: f32) -> Line
+fn word_line(word: &[u8], score: f32) -> Answer
     requires { length word.now ≤ most_info }
     ensures { PrintsAnswer (accepted score) word.now result }
 {
-    let mut bytes = [0; LINE_BYTES];
-    let word_at = put(&mut bytes[..], 0, b"word ");
-    let score_at = put_word(&mut bytes[..], word_at, word);
-    let bits_at = put(&mut bytes[..], score_at, b" score ");
-    let end_at = put_hex(&mut bytes[..], bits_at, f32s::bits_of(score));
-    let count = put(&mut bytes[..], end_at, b"\n");
-    Line { bytes, count }
+    let mut line = Line::new();
+    line.put(b"word ");
+    line.put_word(word);
+    line.put(b" score ");
+    line.put_hex(f32s::bits_of(score));
+    line.put(b"\n");
+    line
 }
 
 // The whole output for an input.
-pub fn answer(input: &[u8]) -> Line
+pub fn answer(input: &[u8]) -> Answer
     ensures { AnswersInput input.now result }
 {
     if !is_shaped(input.len()) {
