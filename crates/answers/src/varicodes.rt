@@ -1,6 +1,6 @@
 // The calls of Varicode: its words, and the writer and the reader.
-use call_lines::fields::{SHORT, byte, field, fill, find, lent, number, room, start_of};
-use call_lines::print::{TEXT, print_bytes, print_number, put_number, write_front};
+use call_lines::fields::{SHORT, byte, field, fill, lent, number, room};
+use call_lines::print::{print_bytes, print_number};
 use queue::{BitQueue, CharQueue, Taken};
 use refusal::{Counted, Put, count_number};
 use std::io;
@@ -105,11 +105,8 @@ fn reader(line: &[u8]) -> VaricodeDecoder {
 // The steps from a place of the line on.
 fn steps<W: Write>(to: &mut W, line: &[u8], from: usize, start: Coders) -> io::Result<Coders> {
     let mut coders = start;
-    let mut at = start_of(line, from);
-    while at < line.len() {
-        let end = at + find(&line[at..], b' ');
-        coders = step(to, coders, &line[at..end])?;
-        at = end + 1;
+    for text in line.split(|b| *b == b' ').skip(from) {
+        coders = step(to, coders, text)?;
     }
     Ok(coders)
 }
@@ -122,7 +119,7 @@ fn step<W: Write>(to: &mut W, coders: Coders, text: &[u8]) -> io::Result<Coders>
     }
     let letter = text[0];
     let rest = &text[1..];
-    let mut values = lent();
+    let mut values: [u8; SHORT] = lent();
     match letter {
         b'b' | b'i' => {
             let n = fill(rest, &mut values);
@@ -146,14 +143,11 @@ struct Called {
 // A call for each value, and an answer printed for each. What takes out needs no value.
 fn calls<W: Write>(to: &mut W, start: Coders, letter: u8, values: &[u8]) -> io::Result<Coders> {
     let mut coders = start;
-    let mut text = [0u8; TEXT];
-    let mut at = 0;
-    for i in 0..values.len() {
-        let called = call(coders, letter, values[i]);
-        at = put_number(to, &mut text, at, called.answer)?;
+    for value in values {
+        let called = call(coders, letter, *value);
+        print_number(to, called.answer, 1)?;
         coders = called.coders;
     }
-    write_front(to, &text, at)?;
     Ok(coders)
 }
 

@@ -16,7 +16,7 @@ module _ (ROOM : _) (fits : _) (κs : _) where
 module _ (ROOM : _) (fits : _) (κs line r r' : _) where
   pub written_once :
       written.Post ROOM fits κs (line, tt) r (line, tt) → written.Post ROOM fits κs (line, tt) r' (line, tt) → r.now ≡ r'.now
-  written_once p q = p ∙ sym q
+  written_once (p, _) (q, _) = p ∙ sym q
 
 module _ (ROOM : _) (fits : _) (κs line text left left' : _) where
   pub put_once :

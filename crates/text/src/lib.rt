@@ -35,7 +35,8 @@ impl<const ROOM: usize> Line<ROOM> {
 
     // What was written.
     pub fn written(&self) -> &[u8]
-        ensures { result.now ≡ self.now }
+        ensures text { result.now ≡ self.now }
+        ensures within { length result.now ≤ ROOM }
     {
         &self.bytes[..self.len]
     }
