@@ -20,15 +20,13 @@ use Rattle.correlation.specs.Whole.{exactly}
 use Rattle.correlation.proofs.Answers.{accepted_score, accepted_good}
 use Rattle.correlation.proofs.Lengths.{length-word}
 use Rattle.encoder.specs.Encode.{coded_length_of}
-use Rattle.f32_answers.specs.Answer as f32
-use Rattle.f32_answers.specs.declared.Decoded as f32_answer
 use Rattle.f32s.specs.Whole.{float_of}
 use Rattle.readings.specs.Promise as readings
 use Rattle.readings.proofs.viterbi_decode_soft_with.Reads as viterbi_decode_soft_with
-use Rattle.refusal.specs.Answer.{Said, accepted, said_as}
+use Rattle.std.specs.Prelude.{Result}
+use Rattle.refusal.specs.declared.Refusal.{Refusal}
+use Rattle.refusal.specs.Answer.{answer_said, Says, Said, accepted, said_as}
 use Rattle.refusal.specs.Lent.{over, leaves, Lent}
-use Rattle.signed_answers.specs.Answer as signed
-use Rattle.signed_answers.specs.declared.Decoded as signed_answer
 use Rattle.signed_readings.specs.Promise as signed_readings
 use Rattle.signed_readings.specs.Said.{is_reading, count_of, decode_said}
 use Rattle.signed_readings.proofs.viterbi_decode_signed_with.Reads as viterbi_decode_signed_with
@@ -41,11 +39,11 @@ use Rattle.agreement.proofs.Agreed.{decoders_agree}
 -- ---- agreement
 
 promises_agree :
-    (code rate info : ℕ) (zs : List ℤ) → InRange code rate info zs → {r : f32_answer.Decoded} {r' : signed_answer.Decoded}
+    (code rate info : ℕ) (zs : List ℤ) → InRange code rate info zs → {r : Result Float Refusal} {r' : Result ℤ Refusal}
     (given given' : List ℕ) {out out' scratch scratch' : List ℕ} →
-    readings.Decodes (f32.Scores r) code rate info (floats_of zs) (record { given = given; left = out })
+    readings.Decodes (Says r) code rate info (floats_of zs) (record { given = given; left = out })
     (record { given = given'; left = scratch }) →
-    signed_readings.Decodes (signed.Scores r') code rate info zs (record { given = given; left = out' })
+    signed_readings.Decodes (Says r') code rate info zs (record { given = given; left = out' })
     (record { given = given'; left = scratch' }) →
     SameOutcome r r' out out' scratch scratch'
 promises_agree code rate info zs range given given' soft whole =
@@ -61,7 +59,7 @@ promises_agree code rate info zs range given given' soft whole =
 -- of the contracts: whatever is read as f32s is the same numbers
 pub entries_agree :
     (κs κs' code info rate out scratch : _) (floats : Bor (List Float)) (zs : Bor (List ℤ))
-    (r : f32_answer.Decoded) (r' : signed_answer.Decoded) (left left' work work' : _) →
+    (r : Result Float Refusal) (r' : Result ℤ Refusal) (left left' work work' : _) →
     floats.now ≡ floats_of zs.now → InRange code rate info zs.now →
     viterbi_decode_soft_with.Post κs (code, (floats, (info, (rate, (out, (scratch, tt)))))) r
     (code, (floats, (info, (rate, (left, (work, tt)))))) →
@@ -123,7 +121,7 @@ module _ (code rate info : ℕ) (zs : List ℤ) where
       ∙ take_at decoded _ info (length-word exactly (code_of code) (pattern_of code rate) zs info)
 
   promise_claimed :
-      {r : signed_answer.Decoded} {out scratch : Lent ℕ} → signed_readings.Decodes (signed.Scores r) code rate info zs out scratch →
+      {r : Result ℤ Refusal} {out scratch : Lent ℕ} → signed_readings.Decodes (Says r) code rate info zs out scratch →
       ClaimOfSignedCall code rate info zs r out.left
   promise_claimed {r} {out} {scratch} promised =
       record {
@@ -138,7 +136,7 @@ module _ (code rate info : ℕ) (zs : List ℤ) where
       }
 
 pub signed_with_claimed :
-    (κs code readings info rate out scratch : _) (r : signed_answer.Decoded) (left work : _) →
+    (κs code readings info rate out scratch : _) (r : Result ℤ Refusal) (left work : _) →
     viterbi_decode_signed_with.Post κs (code, (readings, (info, (rate, (out, (scratch, tt)))))) r
     (code, (readings, (info, (rate, (left, (work, tt)))))) →
     ClaimOfSignedCall code rate info readings.now r left.now

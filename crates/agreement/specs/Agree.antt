@@ -1,18 +1,15 @@
 -- The block decoder of readings in f32 and that of signed bytes, on the same numbers. Definitions only.
-use Rattle.std.specs.Prelude.{List, map, ◌≡◌, ℕ, ◌^◌, ◌≤◌, ◌<◌, Float, ℤ, pos, nat_abs, get_or}
+use Rattle.std.specs.Prelude.{List, map, ◌≡◌, ℕ, ◌^◌, ◌≤◌, ◌<◌, Float, ℤ, pos, nat_abs, get_or, Result}
 use Rattle.std.specs.Int.Signed.{mag}
 use Rattle.correlation.specs.Decode as any
 use Rattle.correlation.specs.Whole.{exactly}
 use Rattle.encoder.specs.Encode.{coded_length_of}
-use Rattle.f32_answers.specs.Answer as f32
-use Rattle.f32_answers.specs.declared.Decoded as f32_answer
 use Rattle.f32s.specs.Whole.{float_of}
 use Rattle.forward.specs.Sums.{soft}
 use Rattle.readings.specs.Said as readings
-use Rattle.refusal.specs.Answer.{said_as}
+use Rattle.refusal.specs.declared.Refusal.{Refusal}
+use Rattle.refusal.specs.Answer.{answer_said, said_as}
 use Rattle.refusal.specs.Lent.{leaves}
-use Rattle.signed_answers.specs.Answer as signed
-use Rattle.signed_answers.specs.declared.Decoded as signed_answer
 use Rattle.signed_readings.specs.Said as signed_readings
 use Rattle.trellis.specs.Choice.{code_of, pattern_of}
 use Rattle.trellis.specs.Codeword.{steps_of}
@@ -52,7 +49,7 @@ pub record Agree (code rate info : ℕ) (zs : List ℤ) : Type 0 where
 
 -- Of two calls, by what each returned and what it left in the two buffers:
 pub record SameOutcome
-    (r : f32_answer.Decoded) (r' : signed_answer.Decoded) (out out' work work' : List ℕ) : Type 0 where
-  pub answer : f32.word_said r ≡ said_as float_of (signed.word_said r')
+    (r : Result Float Refusal) (r' : Result ℤ Refusal) (out out' work work' : List ℕ) : Type 0 where
+  pub answer : answer_said r ≡ said_as float_of (answer_said r')
   pub output : out ≡ out'
   pub scratch : work ≡ work'

@@ -11,17 +11,16 @@ use lib.Dec.{ltb}
 use lib.Ieee.{Float, nan}
 use lib.ListN.{length, take, get_or, set, length-append}
 use lib.Seq.{length-take-le}
-use Rattle.refusal.specs.Answer.{accepted, refused, Counts}
+use Rattle.std.specs.Prelude.{Option, Some, None, Result, Ok, Err}
+use Rattle.refusal.specs.Answer.{accepted, refused, Says}
 use Rattle.refusal.specs.Lent.{over, Lent}
-use Rattle.refusal.specs.declared.Counted.{Counted}
-use Rattle.refusal.specs.declared.Counted.TheVariants as counted
+use Rattle.refusal.specs.declared.Refusal.{Refusal}
+use Rattle.refusal.specs.declared.Refusal.TheVariants as refusal
 use Rattle.refusal.specs.Numbers.{short_output}
 use Rattle.refusal.proofs.Filling.{Written, written_inside}
 use Rattle.refusal.proofs.Told.{refused_when, passed_when}
 use Rattle.refusal.proofs.Over.{over_kept, over_set, over_more, length_over, writes_refused, writes_accepted}
 use Rattle.streaming_steps.specs.Steps.{lag}
-use Rattle.streaming.specs.declared.Emitted.{Emitted}
-use Rattle.streaming.specs.declared.Emitted.TheVariants as emitted
 use Rattle.streaming.specs.declared.StreamingViterbi.{StreamingViterbi}
 use Rattle.streaming.specs.Decoder.{held}
 use Rattle.streaming.specs.Promise.{Begins, Feeds}
@@ -36,31 +35,31 @@ use Rattle.bench_calls.specs.Stream.{accepted_of, stream_gives, stream_said}
 
 -- ---- a bit put, or none
 
-module _ {answer : Emitted} {at : ℕ} {out : List ℕ} where
+module _ {answer : Result (Option ℕ) Refusal} {at : ℕ} {out : List ℕ} where
   none_put : bits_in (emitted_said answer) ≡ [] → at ≤ length out → PutsBits answer at at (record { given = out; left = out })
   none_put e h = record { place = rw e (omega arith); output = rw e (over_kept out at h) }
 
   pub bit_put :
-      {b : ℕ} → answer ≡ emitted.Bit b → at < length out →
+      {b : ℕ} → answer ≡ Ok (Some b) → at < length out →
       PutsBits answer at (at + 1) (record { given = out; left = set out at b })
   bit_put {b} e h = record { place = rw e (omega arith); output = rw e (over_set out at b h) }
 
-  pub nothing_put : answer ≡ emitted.Nothing → at < length out → PutsBits answer at at (record { given = out; left = out })
-  nothing_put e h = none_put (ap (λ (a : Emitted). bits_in (emitted_said a)) e) (omega arith)
+  pub nothing_put : answer ≡ Ok None → at < length out → PutsBits answer at at (record { given = out; left = out })
+  nothing_put e h = none_put (ap (λ (a : Result (Option ℕ) Refusal). bits_in (emitted_said a)) e) (omega arith)
 
   pub refusal_put :
-      {r : _} → answer ≡ emitted.Refused r → at < length out → PutsBits answer at at (record { given = out; left = out })
-  refusal_put e h = none_put (ap (λ (a : Emitted). bits_in (emitted_said a)) e) (omega arith)
+      {r : _} → answer ≡ Err r → at < length out → PutsBits answer at at (record { given = out; left = out })
+  refusal_put e h = none_put (ap (λ (a : Result (Option ℕ) Refusal). bits_in (emitted_said a)) e) (omega arith)
 
 -- a symbol brings one bit at most
-few_bits : (answer : Emitted) → length (bits_in (emitted_said answer)) ≤ 1
-few_bits (emitted.Bit b) = omega arith
-few_bits emitted.Nothing = omega arith
-few_bits (emitted.Refused r) = omega arith
+few_bits : (answer : Result (Option ℕ) Refusal) → length (bits_in (emitted_said answer)) ≤ 1
+few_bits (Ok (Some b)) = omega arith
+few_bits (Ok None) = omega arith
+few_bits (Err r) = omega arith
 
 -- behind the bits before it
 written_put :
-    {old bits : List ℕ} {i written count : ℕ} {answer : Emitted} {out : Lent ℕ} →
+    {old bits : List ℕ} {i written count : ℕ} {answer : Result (Option ℕ) Refusal} {out : Lent ℕ} →
     Written old bits i out.given written → written < length out.given → PutsBits answer written count out →
     Written old (bits ++ bits_in (emitted_said answer)) (i + 1) out.left count
 written_put {old} {bits} {i} {written} {count} {answer} {out} so_far inside puts =
@@ -106,7 +105,7 @@ module _ {soft : List Float} {old : List ℕ} {i : ℕ} {d : StreamingViterbi} {
   streaming_inside so_far h = written_inside so_far.ran.bits h so_far.room
 
   pub streaming_goes_on :
-      {next : StreamingViterbi} {answer : Emitted} {count : ℕ} {out : Lent ℕ} →
+      {next : StreamingViterbi} {answer : Result (Option ℕ) Refusal} {count : ℕ} {out : Lent ℕ} →
       Streaming soft old i d out.given written → i < length soft / 2 →
       Feeds (Emits answer) (held d) (held next) (get_or soft (2 * i) nan) (get_or soft (2 * i + 1) nan) →
       PutsBits answer written count out → Streaming soft old (i + 1) next out.left count
@@ -134,9 +133,9 @@ module _ (soft : List Float) (room : ℕ) where
   accepted_said h = sym (passed_when (ltb room (length soft / 2)) 4 _ (le-ltb room (length soft / 2) h))
 
 pub stream_refused :
-    (soft : List Float) {out : List ℕ} (answer : Counted) → Counts answer (refused short_output 0) → length out < length soft / 2 →
-    Streams (Counts answer) soft (record { given = out; left = out })
-stream_refused soft {out} answer says h = writes_refused (refused_said soft (length out) h) says refl
+    (soft : List Float) {out : List ℕ} → length out < length soft / 2 →
+    Streams (Says (Err refusal.ShortOutput)) soft (record { given = out; left = out })
+stream_refused soft {out} h = writes_refused (refused_said soft (length out) h) refl refl
 
 stream_bits : (soft : List Float) → run_gives k5 lag (fresh k5 lag) (accepted_of soft (length soft / 2)) ≡ stream_gives soft
 unfolding stream_gives
@@ -145,7 +144,7 @@ stream_bits soft = refl
 pub streaming_ends :
     {soft : List Float} {old : List ℕ} {i : ℕ} {d : StreamingViterbi} {out : List ℕ} {written : ℕ} →
     Streaming soft old i d out written → length soft / 2 ≤ i →
-    Streams (Counts (counted.Count written)) soft (record { given = old; left = out })
+    Streams (Says (Ok written)) soft (record { given = old; left = out })
 streaming_ends {soft} {old} {i} {d} {out} {written} so_far h =
     let bits : run_gives k5 lag (fresh k5 lag) (accepted_of soft i) ≡ stream_gives soft =
     ap (λ (n : ℕ). run_gives k5 lag (fresh k5 lag) (accepted_of soft n)) (le_antisymm so_far.few h) ∙ stream_bits soft in

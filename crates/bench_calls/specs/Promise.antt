@@ -1,4 +1,4 @@
--- What the functions promise that no entry does. `Answers` is how the caller reads the answer (`Counts r` or
+-- What the functions promise that no entry does. `Answers` is how the caller reads the answer (`Says r` or
 -- `Numbers r`), `out` the lent buffer. Definitions only.
 use Rattle.std.specs.Prelude.{List, ℕ, Float, length}
 use Rattle.refusal.specs.Answer.{Said}

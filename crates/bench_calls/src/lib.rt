@@ -3,7 +3,7 @@
 #![tactic(auto)]
 
 ghost use Rattle.std.specs.Prelude.{◌≡◌, ◌<◌, length};
-ghost use Rattle.refusal.specs.Answer.{Counts, Numbers};
+ghost use Rattle.refusal.specs.Answer.{Says, Numbers};
 ghost use Rattle.refusal.specs.Lent.{lent};
 ghost use Rattle.streaming.specs.Said.{emitted_said};
 ghost use Rattle.streaming.specs.Decoder.{held};
@@ -14,7 +14,7 @@ ghost use Rattle.bench_calls.specs.Number.{EmitNumbers, letter_number};
 ghost use Rattle.bench_calls.specs.Promise.{Streams};
 ghost use Rattle.bench_calls.specs.Inner.{PutsBits};
 
-use refusal::Counted;
+use refusal::Refusal;
 use streaming::{Emitted, StreamingViterbi};
 use varicode_words::Letter;
 
@@ -32,22 +32,22 @@ fn put_bit(answer: Emitted, at: usize, out: &mut [u8]) -> usize
     ensures { PutsBits answer at result (lent out) }
 {
     match answer {
-        Emitted::Bit(bit) => {
+        Ok(Some(bit)) => {
             out[at] = bit;
             at + 1
         }
-        Emitted::Nothing => at,
-        Emitted::Refused(r) => at,
+        Ok(None) => at,
+        Err(_) => at,
     }
 }
 
 // A fresh streaming decoder fed by value with every symbol, re and im in turn.
-fn stream(soft: &[f32], out: &mut [u8]) -> Counted
-    ensures { Streams (Counts result) soft.now (lent out) }
+fn stream(soft: &[f32], out: &mut [u8]) -> Result<usize, Refusal>
+    ensures { Streams (Says result) soft.now (lent out) }
 {
     let count = soft.len() / 2;
     if out.len() < count {
-        return refusal::no_count(refusal::SHORT_OUTPUT);
+        return Err(Refusal::ShortOutput);
     }
     let mut d = StreamingViterbi::new();
     let mut written = 0;
@@ -55,10 +55,10 @@ fn stream(soft: &[f32], out: &mut [u8]) -> Counted
         let at = 2 * i;
         let fed = d.feed_symbol(soft[at], soft[at + 1]);
         let answer = fed.answer;
-        d = fed.decoder;
+        d = fed.coder;
         written = put_bit(answer, written, out);
     }
-    Counted::Count(written)
+    Ok(written)
 }
 
 // The streaming decoder, by value.
@@ -70,13 +70,14 @@ pub extern "C" fn timed_stream(soft: &[f32], out: &mut [u8]) -> u64
 }
 
 // A symbol's answer as one number: a bit, or 2 where there is none yet.
+#[tactic(auto, unfolding(refusal::specs::Answer::door_number))]
 fn emitted_number(answer: Emitted) -> u64
     ensures { EmitNumbers result (emitted_said answer) }
 {
     match answer {
-        Emitted::Bit(b) => b as u64,
-        Emitted::Nothing => 2,
-        Emitted::Refused(r) => refusal::count_number(Counted::Refused(r)),
+        Ok(Some(bit)) => bit as u64,
+        Ok(None) => 2,
+        Err(r) => refusal::refused_number(r),
     }
 }
 

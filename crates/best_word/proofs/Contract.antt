@@ -15,8 +15,6 @@ use lib.Seq.{take_at}
 use Rattle.correlation.specs.Said.{answered}
 use Rattle.correlation.proofs.Answers.{accepted_score}
 use Rattle.correlation.proofs.Lengths.{length-word}
-use Rattle.f32_answers.specs.Answer.{Scores}
-use Rattle.f32_answers.specs.declared.Decoded.{Decoded}
 use Rattle.f32s.specs.Single.{finite, all_of_bytes}
 use Rattle.f32s.proofs.Wholes.{whole_finite}
 use Rattle.forward.specs.Decode.{word, score}
@@ -25,7 +23,9 @@ use Rattle.readings.specs.Promise.{Decodes}
 use Rattle.readings.specs.Said.{survivors_of, examined, decode_said}
 use Rattle.readings.proofs.viterbi_decode_bytes.Reads as viterbi_decode_bytes
 use Rattle.readings.proofs.viterbi_decode_soft_with.Reads as viterbi_decode_soft_with
-use Rattle.refusal.specs.Answer.{Said, accepted, refused, refuse_when}
+use Rattle.std.specs.Prelude.{Result}
+use Rattle.refusal.specs.declared.Refusal.{Refusal}
+use Rattle.refusal.specs.Answer.{Said, accepted, refused, refuse_when, Says}
 use Rattle.refusal.specs.Lent.{over, leaves, Lent}
 use Rattle.refusal.specs.Limits.{most}
 use Rattle.refusal.specs.Numbers.{bad_reading}
@@ -85,8 +85,8 @@ module _ (code rate info : ℕ) (readings : List Float) (room scratch : ℕ) whe
 -- ---- of the promise
 
 promise_claimed :
-    (code rate info : ℕ) (readings : List Float) {r : Decoded} {out scratch : Lent ℕ} →
-    Decodes (Scores r) code rate info readings out scratch → ClaimOfCall code rate info readings r out.left
+    (code rate info : ℕ) (readings : List Float) {r : Result Float Refusal} {out scratch : Lent ℕ} →
+    Decodes (Says r) code rate info readings out scratch → ClaimOfCall code rate info readings r out.left
 promise_claimed code rate info readings {r} {out} {scratch} promised =
     let room = length out.given in
     let work = length scratch.given in
@@ -104,14 +104,14 @@ promise_claimed code rate info readings {r} {out} {scratch} promised =
 -- ---- of the contracts
 
 pub soft_with_claimed :
-    (κs code readings info rate out scratch : _) (r : Decoded) (left work : _) →
+    (κs code readings info rate out scratch : _) (r : Result Float Refusal) (left work : _) →
     viterbi_decode_soft_with.Post κs (code, (readings, (info, (rate, (out, (scratch, tt)))))) r
     (code, (readings, (info, (rate, (left, (work, tt)))))) →
     ClaimOfCall code rate info readings.now r left.now
 soft_with_claimed κs code readings info rate out scratch r left work = promise_claimed code rate info readings.now
 
 pub bytes_claimed :
-    (κs code bytes info rate out scratch : _) (r : Decoded) (left work : _) →
+    (κs code bytes info rate out scratch : _) (r : Result Float Refusal) (left work : _) →
     viterbi_decode_bytes.Post κs (code, (bytes, (info, (rate, (out, (scratch, tt)))))) r
     (code, (bytes, (info, (rate, (left, (work, tt)))))) →
     ClaimOfCall code rate info (all_of_bytes bytes.now) r left.now

@@ -1,14 +1,13 @@
 -- Demand 3: the best word wins, first among equals, and it stays. What is claimed of a word and of a call. Definitions
 -- only.
-use Rattle.std.specs.Prelude.{false, cond, List, [], ◌∷◌, ◌⊎◌, ◌≡◌, ℕ, ◌^◌, ◌≤◌}
+use Rattle.std.specs.Prelude.{false, cond, List, [], ◌∷◌, ◌⊎◌, ◌≡◌, ℕ, ◌^◌, ◌≤◌, Result}
 use Rattle.std.specs.Prelude.{◌<◌, eqb, Float, ℤ, pos, neg_ℤ, ◌+ℤ◌, length, get_or, take}
 use Rattle.std.specs.Int.Signed.{lt_z}
 use Rattle.best_path.specs.Path.{passes, Ahead}
-use Rattle.f32_answers.specs.Answer.{word_said}
-use Rattle.f32_answers.specs.declared.Decoded.{Decoded}
 use Rattle.f32s.specs.Whole.{float_of}
 use Rattle.forward.specs.Decode.{word}
-use Rattle.refusal.specs.Answer.{accepted, refused}
+use Rattle.refusal.specs.declared.Refusal.{Refusal}
+use Rattle.refusal.specs.Answer.{answer_said, accepted, refused}
 use Rattle.refusal.specs.Numbers.{bad_reading}
 use Rattle.trellis.specs.declared.ConvCode.{ConvCode}
 use Rattle.trellis.specs.Choice.{code_of, pattern_of}
@@ -71,13 +70,13 @@ module _ (code : ConvCode) (p : Keep) (info : ℕ) where
         word code p others info ≡ v
 
 -- Of a call on whole readings within the sum, by what it was given, what it returned and what it left in the output:
-pub record ClaimOfCall (code rate info : ℕ) (readings : List Float) (r : Decoded) (out : List ℕ) : Type 0 where
+pub record ClaimOfCall (code rate info : ℕ) (readings : List Float) (r : Result Float Refusal) (out : List ℕ) : Type 0 where
   -- accepted, the front of the output is a word, and the answer a score, of which the claim holds
   pub accepts :
       (zs : List ℤ) → Exact (code_of code) (pattern_of code rate) info readings zs → (s : Float) →
-      word_said r ≡ accepted s →
+      answer_said r ≡ accepted s →
       Claim (code_of code) (pattern_of code rate) info zs (take info out) s
   -- and it is not for a reading that a call is refused
   pub never_6 :
       (zs : List ℤ) → Exact (code_of code) (pattern_of code rate) info readings zs →
-      (place : ℕ) → word_said r ≡ refused bad_reading place → ⊥
+      (place : ℕ) → answer_said r ≡ refused bad_reading place → ⊥

@@ -3,17 +3,21 @@
 use mathlib.Core.Bool.{Bool, true}
 use mathlib.Core.List.{List}
 use mathlib.Core.Path.{◌≡◌, sym, ap, ◌∙◌}
-use Prim.Native.Nat.{ℕ, ◌≤◌, ◌<◌}
+use Prim.Native.Nat.{ℕ, ◌<◌}
 use native.Mathlib.Omega.{arith}
 use lib.Dec.{ltb}
 use lib.ListN.{length, get_or, take}
+use lib.Seq.{length-take-le}
 use Rattle.encoder.specs.Encode.{coded_length_of}
 use Rattle.encoder.proofs.Checks.{checked_past}
-use Rattle.refusal.specs.Answer.{Said, accepted, refused, refuse_when}
-use Rattle.refusal.specs.First.{first_bad, refuse_at_bad}
+use Rattle.std.specs.Prelude.{Ok, Err, Some, None}
+use Rattle.refusal.specs.declared.Refusal.{Refusal}
+use Rattle.refusal.specs.Answer.{Said, accepted, refused, refuse_when, number_of, place_of}
+use Rattle.refusal.specs.First.{first_bad, FindsBad, refuse_at_bad}
 use Rattle.refusal.specs.Lent.{over, Lent}
 use Rattle.refusal.specs.Numbers.{short_output, short_scratch}
-use Rattle.refusal.proofs.FirstBad.{some_bad, none_bad, accepted_past_bad, good_before, accepted_all_good}
+use Rattle.refusal.proofs.FirstBad.{some_bad, none_bad, found_first, found_none}
+use Rattle.refusal.proofs.FirstBad.{accepted_past_bad, good_before, accepted_all_good}
 use Rattle.refusal.proofs.Over.{both_accepted}
 use Rattle.refusal.proofs.Told.{accepted_told, accepted_past}
 use Rattle.trellis.specs.Choice.{code_of, pattern_of}
@@ -27,7 +31,7 @@ use Rattle.correlation.specs.Promise.{Decodes}
 use Rattle.correlation.specs.Said.{answered}
 use Rattle.correlation.proofs.Checks.{call_refused, call_passes}
 use Rattle.correlation.proofs.Lengths.{length-word, length-filled}
-use Rattle.correlation.proofs.Used.{used_taken, used_counted}
+use Rattle.correlation.proofs.Used.{used_taken, used_counted, used_within}
 
 -- ---- the refusals
 
@@ -41,31 +45,36 @@ module _
   abbrev readings_tested : Said S
   readings_tested = refuse_at_bad bad_number is_good (take (coded_length_of code rate info) readings) (accepted score)
 
-  module _ {r : Prepared} (is : Prepares code rate info (length readings) room scratch r) where
-    pub not_prepared : (r.number ≡ 0 → ⊥) → said ≡ refused r.number 0
+  pub not_prepared :
+      {r : Refusal} → Prepares code rate info (length readings) room scratch (Err r) → said ≡ refused (number_of r) (place_of r)
+  unfolding answered
+  not_prepared is = call_refused is readings_tested
+
+  module _ {p : Prepared} (is : Prepares code rate info (length readings) room scratch (Ok p)) where
+    only_readings : said ≡ readings_tested
     unfolding answered
-    not_prepared h = call_refused is readings_tested h
+    only_readings = call_passes is readings_tested
 
-    module _ (none : r.number ≡ 0) {bad : ℕ} (of_bad : bad ≡ first_bad is_good (take r.used readings)) where
-      only_readings : said ≡ readings_tested
-      unfolding answered
-      only_readings = call_passes is none readings_tested
+    counted : length (take (coded_length_of code rate info) readings) ≡ p.used
+    counted = used_counted (coded_length_of code rate info) p.used readings is.ready.used
 
-      counted : length (take (coded_length_of code rate info) readings) ≡ r.used
-      counted = used_counted (coded_length_of code rate info) r.used readings (is.used none)
+    taken : first_bad is_good (take p.used readings) ≡ first_bad is_good (take (coded_length_of code rate info) readings)
+    taken = ap (first_bad is_good) (used_taken (coded_length_of code rate info) p.used readings is.ready.used)
 
-      found : bad ≡ first_bad is_good (take (coded_length_of code rate info) readings)
-      found = of_bad ∙ ap (first_bad is_good) (used_taken (coded_length_of code rate info) r.used readings (is.used none))
+    pub bad_reading_lem : {i : ℕ} → FindsBad is_good (take p.used readings) (Some i) → said ≡ refused bad_number i
+    bad_reading_lem {i} found =
+        let first = found_first is_good _ i found in
+        only_readings
+        ∙ some_bad is_good bad_number (take (coded_length_of code rate info) readings) _ i (first.0 ∙ taken)
+        (omega (arith, counted, first.1, length-take-le p.used readings (used_within is.ready.used)))
 
-      pub bad_reading_lem : bad < r.used → said ≡ refused bad_number bad
-      bad_reading_lem h =
-          only_readings
-          ∙ some_bad is_good bad_number (take (coded_length_of code rate info) readings) _ bad found (omega (arith, counted))
-
-      pub good_readings : r.used ≤ bad → said ≡ accepted score
-      good_readings h =
-          only_readings
-          ∙ none_bad is_good bad_number (take (coded_length_of code rate info) readings) _ bad found (omega (arith, counted))
+    pub good_readings : FindsBad is_good (take p.used readings) None → said ≡ accepted score
+    good_readings found =
+        let all = found_none is_good _ found in
+        only_readings
+        ∙ none_bad is_good bad_number (take (coded_length_of code rate info) readings) _
+        (first_bad is_good (take p.used readings)) taken
+        (omega (arith, counted, all, length-take-le p.used readings (used_within is.ready.used)))
 
   -- ---- what is accepted
 

@@ -10,12 +10,19 @@ use Rattle.trellis.specs.declared.KeepPattern.{KeepPattern}
 use Rattle.trellis.specs.declared.Selected.{Selected}
 use Rattle.trellis.specs.Inner.{Chooses}
 use Rattle.correlation.specs.declared.Prepared.{Prepared}
-use Rattle.correlation.specs.Inner.{UsedOf}
+use Rattle.std.specs.Prelude.{Result, Ok, Err}
+use Rattle.refusal.specs.declared.Refusal.{Refusal}
+use Rattle.refusal.specs.Answer.{refused, number_of, place_of}
+use Rattle.refusal.proofs.Told.{same_refusal}
+use Rattle.correlation.specs.Inner.{UsedOf, Ready}
 use Rattle.correlation.proofs.after.Reads as after
 use Rattle.correlation.proofs.prepare.Reads as prepare
 
 abbrev selected_of : ConvCode → KeepPattern → Selected
 selected_of code keep = record { code = code; keep = keep }
+
+abbrev prepared_of : Selected → ℕ → ℕ → Prepared
+prepared_of chosen half used = record { chosen = chosen; half = half; used = used }
 
 uses_once : {need count r r' : ℕ} → UsedOf need count r → UsedOf need count r' → r ≡ r'
 uses_once {need} {count} p q =
@@ -30,17 +37,20 @@ choice_once p q = ap₂ selected_of (p.taps ∙ sym q.taps) (p.rows ∙ sym q.ro
 pub after_once : (κs column at : _) → Once (λ (r : ℕ). after.Post κs (column, (at, tt)) r (column, (at, tt)))
 after_once κs column at r r' p q = p ∙ sym q
 
--- what is prepared, but for how many readings a refused call would use
+ready_once :
+    {code rate info count : ℕ} (p q : Prepared) → Ready code rate info count p → Ready code rate info count q → p ≡ q
+ready_once p q is is' =
+    let chosen = choice_once is.chosen is'.chosen in
+    let halves = is.halved ∙ ap (λ (c : Selected). 2 ^ (c.code.width - 1)) chosen ∙ sym is'.halved in
+    ap₂ (λ (make : ℕ → Prepared) (used : ℕ). make used) (ap₂ prepared_of chosen halves) (uses_once is.used is'.used)
+
 pub prepare_once :
-    (κs code rate info count room scratch : _) (r r' : Prepared) →
-    prepare.Post κs (code, (rate, (info, (count, (room, (scratch, tt)))))) r (code, (rate, (info, (count, (room, (scratch, tt)))))) →
-    prepare.Post κs (code, (rate, (info, (count, (room, (scratch, tt)))))) r' (code, (rate, (info, (count, (room, (scratch, tt)))))) →
-    (r.number ≡ r'.number) × (r.chosen ≡ r'.chosen) × (r.half ≡ r'.half) × (r.number ≡ 0 → r.used ≡ r'.used)
-prepare_once κs code rate info count room scratch r r' p q =
-    let number = p.decided ∙ sym q.decided in
-    let chosen = choice_once p.chosen q.chosen in (
-      number,
-      chosen,
-      p.halved ∙ ap (λ (c : Selected). 2 ^ (c.code.width - 1)) chosen ∙ sym q.halved,
-      λ none. uses_once (p.used none) (q.used (sym number ∙ none)),
-    )
+    (κs code rate info count room scratch : _) →
+    Once (λ (r : Result Prepared Refusal).
+    prepare.Post κs (code, (rate, (info, (count, (room, (scratch, tt)))))) r (code, (rate, (info, (count, (room, (scratch, tt)))))))
+prepare_once κs code rate info count room scratch (Ok p) (Ok q) is is' = ap Ok (ready_once p q is.ready is'.ready)
+prepare_once κs code rate info count room scratch (Ok p) (Err e) is is' = cc (is.decided, is'.decided)
+prepare_once κs code rate info count room scratch (Err e) (Ok q) is is' = cc (is.decided, is'.decided)
+prepare_once κs code rate info count room scratch (Err d) (Err e) is is' =
+    let same : refused (number_of d) (place_of d) ≡ refused (number_of e) (place_of e) = is.decided ∙ sym is'.decided in
+    ap Err (same_refusal d e (cc) (cc))

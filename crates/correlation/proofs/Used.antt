@@ -8,6 +8,9 @@ use lib.ListN.{length, get_or, take, get_or-eq_default}
 use lib.Seq.{get_or-take, take_all, length-take-le}
 use Rattle.encoder.specs.Encode.{coded_length_of}
 use Rattle.encoder.proofs.Selected.{length-chosen}
+use Rattle.std.specs.Prelude.{Bool, Some}
+use Rattle.refusal.specs.First.{FindsBad}
+use Rattle.refusal.proofs.FirstBad.{found_first}
 use Rattle.refusal.specs.Limits.{most}
 use Rattle.trellis.specs.declared.KeepPattern.{KeepPattern}
 use Rattle.trellis.specs.declared.Selected.{Selected}
@@ -54,6 +57,11 @@ module _ {A : Type 0} (need used : ℕ) (readings : List A) (is : UsedOf need (l
 
   pub used_counted : length (take need readings) ≡ used
   used_counted = ap (λ (l : List A). length l) (sym used_taken) ∙ length-take-le used readings (used_within is)
+
+  -- the first bad one is few enough for a place
+  pub bad_few : (is_good : A → Bool) {i : ℕ} → FindsBad is_good (take used readings) (Some i) → i < 65536
+  bad_few is_good {i} found =
+      omega (arith, (found_first is_good _ i found).1, length-take-le used readings (used_within is), is.few)
 
   -- behind the last used one none is read
   none_behind : (i : ℕ) → i < need → (i < used → ⊥) → length readings ≤ i

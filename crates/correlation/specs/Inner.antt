@@ -1,6 +1,8 @@
 -- What the inner functions of a decoder of readings ask and ensure, for any kind of decoder. Definitions only.
-use Rattle.std.specs.Prelude.{List, ◌++◌, ◌⊎◌, ◌≡◌, ℕ, ◌-◌, ◌*◌, ◌^◌, ◌≤◌, ◌<◌, length, get_or, drop}
+use Rattle.std.specs.Prelude.{List, ◌++◌, ◌⊎◌, ◌≡◌, ℕ, ◌-◌, ◌*◌, ◌^◌, ◌≤◌, ◌<◌, length, get_or, drop, Result, IfOk}
 use Rattle.encoder.specs.Encode.{coded_length_of}
+use Rattle.refusal.specs.declared.Refusal.{Refusal}
+use Rattle.refusal.specs.Answer.{said_as, done, answer_said}
 use Rattle.refusal.specs.Lent.{Lent}
 use Rattle.refusal.specs.Limits.{most}
 use Rattle.trellis.specs.declared.ConvCode.{ConvCode}
@@ -12,7 +14,7 @@ use Rattle.trellis.specs.Inner.{Chooses, Rows, Halved, Crossed}
 use Rattle.correlation.specs.Arithmetic.{Kind}
 use Rattle.correlation.specs.Gain.{new_mets, new_froms}
 use Rattle.correlation.specs.Decode.{mets, word, score, filled_rows}
-use Rattle.correlation.specs.Said.{call_refusal}
+use Rattle.correlation.specs.Said.{call_checked}
 use Rattle.correlation.specs.declared.Prepared.{Prepared}
 
 -- ---- one step
@@ -102,10 +104,13 @@ pub record UsedEach {A : Type 0} (Asked : A → Type 0) (d : A) (p : Keep) (step
 
 -- ---- before the readings are looked at
 
--- `prepare`: the number of the refusal that a call earns, what its numbers select, and where it earns none, how many of
--- its `count` readings are used
-pub record Prepares (code rate info count room scratch : ℕ) (r : Prepared) : Type 0 where
-  pub decided : r.number ≡ call_refusal code rate info room scratch
-  pub chosen : Chooses code rate r.chosen
-  pub halved : r.half ≡ 2 ^ (r.chosen.code.width - 1)
-  pub used : r.number ≡ 0 → UsedOf (coded_length_of code rate info) count r.used
+-- a call that earns no refusal: what its numbers select, and how many of its `count` readings are used
+pub record Ready (code rate info count : ℕ) (p : Prepared) : Type 0 where
+  pub chosen : Chooses code rate p.chosen
+  pub halved : p.half ≡ 2 ^ (p.chosen.code.width - 1)
+  pub used : UsedOf (coded_length_of code rate info) count p.used
+
+-- `prepare`: the refusal that a call earns, or that
+pub record Prepares (code rate info count room scratch : ℕ) (r : Result Prepared Refusal) : Type 0 where
+  pub decided : said_as (λ p. tt) (answer_said r) ≡ call_checked code rate info room scratch done
+  pub ready : IfOk r (Ready code rate info count)

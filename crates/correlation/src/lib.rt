@@ -9,6 +9,7 @@ ghost use Rattle.trellis.specs.Inner.{Narrow};
 ghost use Rattle.trellis.specs.Keep.{coded_length};
 ghost use Rattle.correlation.specs.Inner.{Usable, UsedOf, Prepares};
 
+use refusal::Refusal;
 use trellis::{ConvCode, KeepPattern, Selected};
 
 // Half of the code's states.
@@ -37,11 +38,10 @@ pub fn after(column: u8, at: usize) -> usize
     if column == 1 { at + 1 } else { at }
 }
 
-// What a call comes to before its readings are looked at: the number of a refusal, or 0; the coding that it selects,
-// half of the states, and how many of the readings are used.
+// What a call that earns none of the refusals 1 to 5 comes to before its readings are looked at: the coding that it
+// selects, half of the states, and how many of the readings are used.
 #[derive(Clone, Copy)]
 pub struct Prepared {
-    pub number: u8,
     pub chosen: Selected,
     pub half: usize,
     pub used: usize,
@@ -55,42 +55,19 @@ pub fn prepare(
     count: usize,
     room: usize,
     scratch: usize,
-) -> Prepared
+) -> Result<Prepared, Refusal>
     ensures { Prepares code rate info count room scratch result }
 {
+    encoder::refused_choice(code, rate, info, refusal::MOST)?;
+    if room < info {
+        return Err(Refusal::ShortOutput);
+    }
     let chosen = trellis::choose(code, rate);
     let half = half_of(chosen.code);
-    let number = encoder::refused_choice(code, rate, info, refusal::MOST);
-    if number != 0 {
-        return Prepared {
-            number,
-            chosen,
-            half,
-            used: 0,
-        };
-    }
-    if room < info {
-        return Prepared {
-            number: refusal::SHORT_OUTPUT,
-            chosen,
-            half,
-            used: 0,
-        };
-    }
     let steps = info + chosen.code.width;
     if scratch < steps * (2 * half) {
-        return Prepared {
-            number: refusal::SHORT_SCRATCH,
-            chosen,
-            half,
-            used: 0,
-        };
+        return Err(Refusal::ShortScratch);
     }
     let used = used_of(chosen.keep, steps, count);
-    Prepared {
-        number: 0,
-        chosen,
-        half,
-        used,
-    }
+    Ok(Prepared { chosen, half, used })
 }

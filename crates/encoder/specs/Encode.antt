@@ -1,5 +1,5 @@
 -- What the encoders and the coded length answer and write, for every input. Definitions only.
-use Rattle.std.specs.Prelude.{cond, not, List, ℕ, ◌*◌, ltb, length}
+use Rattle.std.specs.Prelude.{not, List, ℕ, ◌*◌, ltb, length}
 use Rattle.refusal.specs.Answer.{Said, accepted, refuse_when}
 use Rattle.refusal.specs.Limits.{most}
 use Rattle.refusal.specs.Numbers.{unknown_code, unknown_rate, too_many, short_output}
@@ -19,14 +19,6 @@ checked_to limit code rate count rest =
     (refuse_when (not (known_rate code rate)) unknown_rate
     (refuse_when (ltb limit count) too_many
     rest))
-
--- the number of the refusal among these, and 0 where they pass
-unfoldable pub choice_refusal : (limit code rate count : ℕ) → ℕ
-choice_refusal limit code rate count =
-    cond (not (known_code code)) unknown_code
-    (cond (not (known_rate code rate)) unknown_rate
-    (cond (ltb limit count) too_many
-    0))
 
 abbrev pub checked : {A : Type 0} → (code rate count : ℕ) → Said A → Said A
 checked code rate count rest = checked_to most code rate count rest

@@ -1,13 +1,14 @@
 -- What the entries promise, and their doors: each contract is one of these. `Answers` is how the caller reads the
--- answer (`Counts r` of an entry, `Numbers r` of a door), `out` the lent buffer. Definitions only.
-use Rattle.std.specs.Prelude.{List, ◌≡◌, ℕ, length}
-use Rattle.refusal.specs.Answer.{Said}
+-- answer (`Says r` of an entry, `Numbers r` of a door), `out` the lent buffer. Definitions only.
+use Rattle.std.specs.Prelude.{List, ◌≡◌, ℕ, length, Result}
+use Rattle.refusal.specs.declared.Refusal.{Refusal}
+use Rattle.refusal.specs.Answer.{Said, done, answer_said}
 use Rattle.refusal.specs.Lent.{Lent, Writes}
-use Rattle.encoder.specs.Encode.{choice_refusal, length_said, encode_said, encode_word, plain_said, plain_word}
+use Rattle.encoder.specs.Encode.{checked_to, length_said, encode_said, encode_word, plain_said, plain_word}
 
--- `refused_choice`: the number of the refusal that a code, a rate and an info count earn, and 0 where they earn none
-pub record Decides (limit code rate count number : ℕ) : Type 0 where
-  pub decided : number ≡ choice_refusal limit code rate count
+-- `refused_choice`: the refusal that a code, a rate and an info count earn, or that they pass
+pub record Decides (limit code rate count : ℕ) (r : Result (Unit {0}) Refusal) : Type 0 where
+  pub decided : answer_said r ≡ checked_to limit code rate count done
 
 -- `punctured_coded_len_with`: how many coded bits an info count gives
 abbrev pub Measures : (Said ℕ → Type 0) → (code rate info : ℕ) → Type 0

@@ -2,14 +2,14 @@
 #![tactic(auto)]
 
 ghost use Rattle.std.specs.Prelude.{◌≡◌, get_or};
-ghost use Rattle.refusal.specs.Answer.{Counts};
+ghost use Rattle.refusal.specs.Answer.{Says};
 ghost use Rattle.refusal.specs.Lent.{lent, RoomFor, PutsAt};
 ghost use Rattle.trellis.specs.Choice.{code_of, pattern_of, keep_of};
 ghost use Rattle.trellis.specs.Codeword.{lowest_bits};
 ghost use Rattle.encoder.specs.Promise.{Decides, Measures, Encodes, EncodesPlain};
 ghost use Rattle.encoder.specs.Inner.{kept_by, Ready, ReadyAt, Sends};
 
-use refusal::Counted;
+use refusal::Refusal;
 use trellis::{ConvCode, KeepPattern, Selected};
 
 // The input of step t: the lowest bit of its byte, and 0 past the end, which is the zero tail.
@@ -74,67 +74,67 @@ fn encode_at(code: u8, rate: u8, chosen: Selected, bits: &[u8], steps: usize, ou
     encode(chosen.code, chosen.keep, bits, steps, out);
 }
 
-// Refusals 1 to 3, which every call with a code, a rate and an info count decides first: the number of the
-// one that it earns, and 0 where it earns none. The limit on info bits is the caller's.
+// Refusals 1 to 3, which every call with a code, a rate and an info count decides first. The limit on info bits is the
+// caller's.
 #[tactic(auto, using(crate::proofs::Checks::choices))]
-pub fn refused_choice(code: u8, rate: u8, info: usize, limit: usize) -> u8
+pub fn refused_choice(code: u8, rate: u8, info: usize, limit: usize) -> Result<(), Refusal>
     ensures { Decides limit code rate info result }
 {
     if trellis::CODES <= code {
-        return refusal::UNKNOWN_CODE;
+        return Err(Refusal::UnknownCode);
     }
     if trellis::RATES <= rate {
-        return refusal::UNKNOWN_RATE;
+        return Err(Refusal::UnknownRate);
     }
     if limit < info {
-        return refusal::TOO_MANY;
+        Err(Refusal::TooMany)
+    } else {
+        Ok(())
     }
-    0
 }
 
 // How many coded bits an info count gives.
-pub fn punctured_coded_len_with(code: u8, info: usize, rate: u8) -> Counted
-    ensures { Measures (Counts result) code rate info }
+pub fn punctured_coded_len_with(code: u8, info: usize, rate: u8) -> Result<usize, Refusal>
+    ensures { Measures (Says result) code rate info }
 {
-    let number = refused_choice(code, rate, info, refusal::MOST);
-    if number != 0 {
-        return refusal::no_count(number);
-    }
+    refused_choice(code, rate, info, refusal::MOST)?;
     let chosen = trellis::choose(code, rate);
-    Counted::Count(trellis::coded_len(chosen.keep, info + chosen.code.width))
+    Ok(trellis::coded_len(chosen.keep, info + chosen.code.width))
 }
 
 // The zero-tailed, punctured codeword of the info bits.
-pub fn conv_encode_punctured_with(code: u8, info: &[u8], rate: u8, out: &mut [u8]) -> Counted
-    ensures { Encodes (Counts result) code rate info.now (lent out) }
+pub fn conv_encode_punctured_with(
+    code: u8,
+    info: &[u8],
+    rate: u8,
+    out: &mut [u8],
+) -> Result<usize, Refusal>
+    ensures { Encodes (Says result) code rate info.now (lent out) }
 {
-    let number = refused_choice(code, rate, info.len(), refusal::MOST);
-    if number != 0 {
-        return refusal::no_count(number);
-    }
+    refused_choice(code, rate, info.len(), refusal::MOST)?;
     let chosen = trellis::choose(code, rate);
     let steps = info.len() + chosen.code.width;
     let need = trellis::coded_len(chosen.keep, steps);
     if out.len() < need {
-        return refusal::no_count(refusal::SHORT_OUTPUT);
+        return Err(Refusal::ShortOutput);
     }
     encode_at(code, rate, chosen, info, steps, out);
-    Counted::Count(need)
+    Ok(need)
 }
 
 // The coded bits of K5 at rate 1/2 with no tail: two for each input.
 #[tactic(auto, using(crate::proofs::Checks::plain_refusals))]
-pub fn conv_encode(bits: &[u8], out: &mut [u8]) -> Counted
-    ensures { EncodesPlain (Counts result) bits.now (lent out) }
+pub fn conv_encode(bits: &[u8], out: &mut [u8]) -> Result<usize, Refusal>
+    ensures { EncodesPlain (Says result) bits.now (lent out) }
 {
     let count = bits.len();
     if refusal::MOST < count {
-        return refusal::no_count(refusal::TOO_MANY);
+        return Err(Refusal::TooMany);
     }
     let twice = 2 * count;
     if out.len() < twice {
-        return refusal::no_count(refusal::SHORT_OUTPUT);
+        return Err(Refusal::ShortOutput);
     }
     encode_at(0, 0, trellis::choose(0, 0), bits, count, out);
-    Counted::Count(twice)
+    Ok(twice)
 }

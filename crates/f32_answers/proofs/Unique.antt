@@ -2,6 +2,7 @@
 -- what the call is given, what it returns, and what it leaves in each argument. Assumes nothing.
 use mathlib.Core.Path.{sym, ◌∙◌}
 use Prim.Native.Nat.{ℕ}
+use Rattle.std.specs.Prelude.{Option}
 use Rattle.refusal.proofs.Determined.{Once}
 use Rattle.f32_answers.proofs.word_number.Reads as word_number
 use Rattle.f32_answers.proofs.first_bad.Reads as first_bad
@@ -12,8 +13,8 @@ word_number-once κs answer r r' p q = p ∙ sym q
 
 pub first_bad-once :
     (κs floats bytes used : _) →
-    Once (λ (r : ℕ). first_bad.Post κs (floats, (bytes, (used, tt))) r (floats, (bytes, (used, tt))))
+    Once (λ (r : Option ℕ). first_bad.Post κs (floats, (bytes, (used, tt))) r (floats, (bytes, (used, tt))))
 first_bad-once κs floats bytes used r r' p q = p ∙ sym q
 
-pub first_beyond-once : (κs components : _) → Once (λ (r : ℕ). first_beyond.Post κs (components, tt) r (components, tt))
+pub first_beyond-once : (κs components : _) → Once (λ (r : Option ℕ). first_beyond.Post κs (components, tt) r (components, tt))
 first_beyond-once κs components r r' p q = p ∙ sym q

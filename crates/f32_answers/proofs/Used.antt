@@ -10,8 +10,9 @@ use lib.ListN.{length, get_or, take}
 use lib.Seq.{get_or-take, length-take-le}
 use Rattle.std.proofs.lemmas.Bool.{not_from_false, not_from_true}
 use Rattle.f32s.specs.Single.{zero32, finite}
-use Rattle.refusal.specs.First.{first_bad}
-use Rattle.refusal.proofs.FirstBad.{Sought, found_here, sought_goes_on}
+use Rattle.std.specs.Prelude.{Some}
+use Rattle.refusal.specs.First.{FindsBad}
+use Rattle.refusal.proofs.FirstBad.{Sought, found_here, sought_goes_on, finds_bad}
 
 module _ (all : List Float) (used i : ℕ) (good : Bool) where
   -- the test of a used reading is that of the reading of its number
@@ -20,9 +21,10 @@ module _ (all : List Float) (used i : ℕ) (good : Bool) where
 
   pub used_found :
       Sought finite (take used all) i → i < used → used ≤ length all → good ≡ finite (get_or all i zero32) → good ≡ false →
-      i ≡ first_bad finite (take used all)
+      FindsBad finite (take used all) (Some i)
   used_found sought h enough of-good bad =
-      found_here finite sought zero32 (omega (arith, length-take-le used all enough)) (looked-at h of-good) (not_from_false _ bad)
+      let inside : i < length (take used all) = omega (arith, length-take-le used all enough) in
+      finds_bad finite _ i inside (found_here finite sought zero32 inside (looked-at h of-good) (not_from_false _ bad))
 
   pub used_goes_on :
       Sought finite (take used all) i → i < used → used ≤ length all → good ≡ finite (get_or all i zero32) → good ≡ true →

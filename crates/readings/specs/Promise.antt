@@ -1,5 +1,5 @@
 -- What the entries promise, and their door: each contract is one of these. `Answers` is how the caller reads the answer
--- (`Scores r` of an entry, `ScoreNumbers r` of a door), `out` and `scratch` the lent buffers. Definitions only.
+-- (`Says r` of an entry, `ScoreNumbers r` of a door), `out` and `scratch` the lent buffers. Definitions only.
 use Rattle.std.specs.Prelude.{List, ℕ, Float, length}
 use Rattle.correlation.specs.Promise as any
 use Rattle.f32s.specs.Single.{all_of_bytes}

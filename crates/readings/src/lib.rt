@@ -2,15 +2,13 @@
 #![tactic(auto)]
 
 ghost use Rattle.std.specs.Prelude.{◌≡◌, ◌*◌, length};
-ghost use Rattle.f32_answers.specs.Answer.{Scores, word_said};
 ghost use Rattle.f32s.specs.Single.{values_in, values_lent};
-ghost use Rattle.refusal.specs.Answer.{refused};
+ghost use Rattle.refusal.specs.Answer.{Says};
 ghost use Rattle.refusal.specs.Lent.{lent};
 ghost use Rattle.trellis.specs.Choice.{keep_of};
 ghost use Rattle.readings.specs.Inner.{Decodable, Finds};
 ghost use Rattle.readings.specs.Promise.{Decodes, DecodesBytes};
 
-use f32_answers::Decoded;
 use forward::forward;
 use refusal::Refusal;
 use trellis::{ConvCode, KeepPattern};
@@ -36,13 +34,6 @@ fn decode(
     score
 }
 
-// The refusal of a call whose answer is a word.
-fn no_word(number: u8, place: u32) -> Decoded
-    ensures { word_said result ≡ refused number place }
-{
-    Decoded::Refused(Refusal { number, place })
-}
-
 // What both entries do. The readings, so many, are those of floats and, behind them, those of bytes, four bytes each:
 // an entry has only the one or the other, and each is read where it lies.
 fn decode_readings(
@@ -54,31 +45,28 @@ fn decode_readings(
     rate: u8,
     out: &mut [u8],
     scratch: &mut [u8],
-) -> Decoded
+) -> Result<f32, Refusal>
     requires { count ≡ length (values_in floats.now bytes.now) }
-    ensures { Decodes (Scores result) code rate info (values_lent floats bytes) (lent out) (lent scratch) }
+    ensures { Decodes (Says result) code rate info (values_lent floats bytes) (lent out) (lent scratch) }
 {
-    let ready = correlation::prepare(code, rate, info, count, out.len(), scratch.len());
-    if ready.number != 0 {
-        return no_word(ready.number, 0);
+    let ready = correlation::prepare(code, rate, info, count, out.len(), scratch.len())?;
+    match f32_answers::first_bad(floats, bytes, ready.used) {
+        Some(bad) => Err(Refusal::BadReading(bad as u32)),
+        None => {
+            let chosen = ready.chosen;
+            let score = decode(
+                chosen.code,
+                ready.half,
+                chosen.keep,
+                floats,
+                bytes,
+                info,
+                out,
+                scratch,
+            );
+            Ok(score)
+        }
     }
-    let bad = f32_answers::first_bad(floats, bytes, ready.used);
-    if bad < ready.used {
-        return no_word(refusal::BAD_READING, bad as u32);
-    }
-    let chosen = ready.chosen;
-    let half = ready.half;
-    let score = decode(
-        chosen.code,
-        half,
-        chosen.keep,
-        floats,
-        bytes,
-        info,
-        out,
-        scratch,
-    );
-    Decoded::Word(score)
 }
 
 // The word that the readings fit best, its score, and the survivors of each step in scratch.
@@ -89,8 +77,8 @@ pub fn viterbi_decode_soft_with(
     rate: u8,
     out: &mut [u8],
     scratch: &mut [u8],
-) -> Decoded
-    ensures { Decodes (Scores result) code rate info readings.now (lent out) (lent scratch) }
+) -> Result<f32, Refusal>
+    ensures { Decodes (Says result) code rate info readings.now (lent out) (lent scratch) }
 {
     let none: [u8; 0] = [];
     decode_readings(
@@ -113,8 +101,8 @@ pub fn viterbi_decode_bytes(
     rate: u8,
     out: &mut [u8],
     scratch: &mut [u8],
-) -> Decoded
-    ensures { DecodesBytes (Scores result) code rate info bytes.now (lent out) (lent scratch) }
+) -> Result<f32, Refusal>
+    ensures { DecodesBytes (Says result) code rate info bytes.now (lent out) (lent scratch) }
 {
     let none: [f32; 0] = [];
     decode_readings(

@@ -5,11 +5,13 @@ use mathlib.Core.List.{List, [], ◌∷◌}
 use mathlib.Core.Path.{◌≡◌, refl, ap, sym, subst, ◌∙◌}
 use Prim.Native.Nat.{ℕ, zero, suc, ◌+◌, ◌≤◌, ◌<◌}
 use native.Mathlib.Omega.{arith}
-use borrow.Author.Tests.{lt-ltb, le-ltb, ltb-false}
+use borrow.Author.Tests.{lt-ltb, le-ltb, ltb-true, ltb-false}
 use lib.Dec.{T, ltb}
 use lib.ListN.{length, get_or, drop, drop_of_length-le}
 use Rattle.refusal.specs.Answer.{Said, accepted, refused}
-use Rattle.refusal.specs.First.{first_bad, refuse_at_bad}
+use Rattle.std.specs.List.{position, position_or_len}
+use Rattle.std.specs.Prelude.{Some, None}
+use Rattle.refusal.specs.First.{first_bad, FindsBad, refuse_at_bad}
 
 next-is : {E : Type 0} (d : E) (i : ℕ) (xs : List E) → i < length xs → drop i xs ≡ get_or xs i d ∷ drop (suc i) xs
 next-is d zero [] h = absurd (omega (arith, h))
@@ -107,3 +109,46 @@ module _ {E : Type 0} (is_good : E → Bool) where
       go : (b : Bool) → cond b (refused number (first_bad is_good xs)) rest ≡ accepted a → rest ≡ accepted a
       go true e = cc
       go false e = e
+
+  -- ---- a search that answers with an `Option`
+
+  is_position : (xs : List E) → first_bad is_good xs ≡ position_or_len (λ x. not (is_good x)) xs
+  unfolding first_bad
+  is_position [] = refl
+  is_position (x ∷ xs) = go (is_good x) (is_position xs)
+    where
+      go :
+          (good : Bool) → first_bad is_good xs ≡ position_or_len (λ x. not (is_good x)) xs →
+          cond good (suc (first_bad is_good xs)) 0 ≡ cond (not (not good)) (1 + position_or_len (λ x. not (is_good x)) xs) 0
+      go true e = omega (arith, e)
+      go false e = refl
+
+  -- the first bad value, or none where all are good
+  answered : (xs : List E) → position (λ x. not (is_good x)) xs ≡ cond (ltb (first_bad is_good xs) (length xs)) (Some (first_bad is_good xs)) None
+  answered xs = ap (λ n. cond (ltb n (length xs)) (Some n) None) (sym (is_position xs))
+
+  pub finds_bad : (xs : List E) (i : ℕ) → i < length xs → i ≡ first_bad is_good xs → FindsBad is_good xs (Some i)
+  finds_bad xs i inside e = rw (answered xs, ← e, lt-ltb i (length xs) inside) refl
+
+  pub finds_none : (xs : List E) → length xs ≤ first_bad is_good xs → FindsBad is_good xs None
+  finds_none xs all = rw (answered xs, le-ltb (first_bad is_good xs) (length xs) all) refl
+
+  pub found_first : (xs : List E) (i : ℕ) → FindsBad is_good xs (Some i) → (i ≡ first_bad is_good xs) × (i < length xs)
+  found_first xs i found = go (ltb (first_bad is_good xs) (length xs)) refl (found ∙ answered xs)
+    where
+      go :
+          (b : Bool) → ltb (first_bad is_good xs) (length xs) ≡ b → Some i ≡ cond b (Some (first_bad is_good xs)) None →
+          (i ≡ first_bad is_good xs) × (i < length xs)
+      go true h e =
+          let same : i ≡ first_bad is_good xs = cc in
+          (same, omega (arith, same, ltb-true (first_bad is_good xs) (length xs) h))
+      go false h e = cc
+
+  pub found_none : (xs : List E) → FindsBad is_good xs None → length xs ≤ first_bad is_good xs
+  found_none xs found = go (ltb (first_bad is_good xs) (length xs)) refl (found ∙ answered xs)
+    where
+      go :
+          (b : Bool) → ltb (first_bad is_good xs) (length xs) ≡ b → None ≡ cond b (Some (first_bad is_good xs)) None →
+          length xs ≤ first_bad is_good xs
+      go true h e = cc
+      go false h e = ltb-false (first_bad is_good xs) (length xs) h

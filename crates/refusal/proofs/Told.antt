@@ -2,41 +2,61 @@
 -- passed each test. Assumes nothing.
 use mathlib.Core.Bool.{Bool, true, false}
 use mathlib.Core.Path.{◌≡◌, refl, sym, ap, ap₂, ◌∙◌}
-use Prim.Native.Nat.{ℕ}
-use Rattle.refusal.specs.Answer.{Said, accepted, refused, refuse_when, count_said, done_said}
-use Rattle.refusal.specs.Answer.{Counts, Numbers}
+use Rattle.std.specs.Prelude.{Result, Ok, Err, IsErrAnd}
+use mathlib.Core.List.{[], ◌∷◌}
+use Prim.Native.Nat.{ℕ, ◌-◌}
+use lib.ListN.{get_or}
+use Rattle.refusal.specs.Answer.{Said, accepted, refused, refuse_when, number_of, place_of, answer_said}
+use Rattle.refusal.specs.Answer.{Says, Numbers}
 use Rattle.refusal.specs.declared.Refusal.{Refusal}
-use Rattle.refusal.specs.declared.Counted.{Counted}
-use Rattle.refusal.specs.declared.Counted.TheVariants as counted
-use Rattle.refusal.specs.declared.Put.{Put}
-use Rattle.refusal.specs.declared.Put.TheVariants as put
+use Rattle.refusal.specs.declared.Refusal.TheVariants as refusal
 use Rattle.refusal.proofs.Determined.{Telling}
 
-abbrev made : ℕ → ℕ → Refusal
-made n p = record { number = n; place = p }
+-- the refusal of a number and a place
+refusal_of : (number place : ℕ) → Refusal
+refusal_of number place =
+    get_or
+    (refusal.UnknownCode ∷ refusal.UnknownRate ∷ refusal.TooMany ∷ refusal.ShortOutput ∷ refusal.ShortScratch
+    ∷ refusal.BadReading place ∷ refusal.BadComponent place ∷ refusal.BadBit ∷ refusal.QueueFull ∷ refusal.BadInput
+    ∷ refusal.BadByte ∷ refusal.BadSignedByte place ∷ [])
+    (number - 1) refusal.UnknownCode
 
-pub same_refusal : (q r : Refusal) → q.number ≡ r.number → q.place ≡ r.place → q ≡ r
-same_refusal q r e f = ap₂ made e f
+itself : (r : Refusal) → refusal_of (number_of r) (place_of r) ≡ r
+unfolding refusal_of
+itself refusal.UnknownCode = refl
+itself refusal.UnknownRate = refl
+itself refusal.TooMany = refl
+itself refusal.ShortOutput = refl
+itself refusal.ShortScratch = refl
+itself (refusal.BadReading at) = refl
+itself (refusal.BadComponent at) = refl
+itself refusal.BadBit = refl
+itself refusal.QueueFull = refl
+itself refusal.BadInput = refl
+itself refusal.BadByte = refl
+itself (refusal.BadSignedByte at) = refl
 
-pub count_told : (a b : Counted) → count_said a ≡ count_said b → a ≡ b
-count_told (counted.Count m) (counted.Count n) e = cc
-count_told (counted.Count m) (counted.Refused r) e = cc
-count_told (counted.Refused q) (counted.Count n) e = cc
-count_told (counted.Refused q) (counted.Refused r) e = ap counted.Refused (same_refusal q r (cc) (cc))
+pub same_refusal : (q r : Refusal) → number_of q ≡ number_of r → place_of q ≡ place_of r → q ≡ r
+same_refusal q r e f = sym (itself q) ∙ ap₂ refusal_of e f ∙ itself r
 
-pub done_told : (a b : Put) → done_said a ≡ done_said b → a ≡ b
-done_told put.Done put.Done e = cc
-done_told put.Done (put.Refused r) e = cc
-done_told (put.Refused q) put.Done e = cc
-done_told (put.Refused q) (put.Refused r) e = ap put.Refused (same_refusal q r (cc) (cc))
+pub answer_told : {A : Type 0} (a b : Result A Refusal) → answer_said a ≡ answer_said b → a ≡ b
+answer_told (Ok m) (Ok n) e = cc
+answer_told (Ok m) (Err r) e = cc
+answer_told (Err q) (Ok n) e = cc
+answer_told (Err q) (Err r) e = ap Err (same_refusal q r (cc) (cc))
 
 -- the same of each way to read an answer
 
-pub counts_tell : Telling Counts
-counts_tell said r r' p q = count_told r r' (p ∙ sym q)
+pub says_tell : {A : Type 0} → Telling (Says {A = A})
+says_tell said r r' p q = answer_told r r' (p ∙ sym q)
 
 pub numbers_tell : Telling Numbers
 numbers_tell said r r' p q = p ∙ sym q
+
+-- what a `?` hands on is the refusal itself
+pub handed_on : {A : Type 0} (r : Result A Refusal) (q : Refusal) → IsErrAnd r (λ e. e ≡ q) → r ≡ Err q
+handed_on (Ok a) q h = absurd h
+handed_on (Err e) q h = ap Err h
 
 -- ---- what is accepted
 

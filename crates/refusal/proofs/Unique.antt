@@ -2,23 +2,25 @@
 -- what the call is given, what it returns, and what it leaves in each argument. Assumes nothing.
 use mathlib.Core.Path.{sym, ◌∙◌}
 use Prim.Native.Nat.{ℕ}
-use Rattle.refusal.specs.declared.Counted.{Counted}
-use Rattle.refusal.specs.declared.Put.{Put}
 use Rattle.refusal.proofs.Determined.{Once}
-use Rattle.refusal.proofs.Told.{done_told, counts_tell, numbers_tell}
-use Rattle.refusal.proofs.no_count.Reads as no_count
-use Rattle.refusal.proofs.not_done.Reads as not_done
+use Rattle.refusal.proofs.Told.{numbers_tell}
+use Rattle.refusal.proofs.Refusal.number.Reads as number
+use Rattle.refusal.proofs.Refusal.place.Reads as place
 use Rattle.refusal.proofs.refused_number.Reads as refused_number
-use Rattle.refusal.proofs.count_number.Reads as count-number
+use Rattle.refusal.proofs.answer_number.Reads as answer_number
+use Rattle.refusal.proofs.count_number.Reads as count_number
 
-pub no_count-once : (κs number : _) → Once (λ (r : Counted). no_count.Post κs (number, tt) r (number, tt))
-no_count-once κs number = counts_tell _
+pub number_once : (κs refusal : _) → Once (λ (r : ℕ). number.Post κs (refusal, tt) r (refusal, tt))
+number_once κs refusal r r' p q = p ∙ sym q
 
-pub not_done-once : (κs number : _) → Once (λ (r : Put). not_done.Post κs (number, tt) r (number, tt))
-not_done-once κs number r r' p q = done_told r r' (p ∙ sym q)
+pub place_once : (κs refusal : _) → Once (λ (r : ℕ). place.Post κs (refusal, tt) r (refusal, tt))
+place_once κs refusal r r' p q = p ∙ sym q
 
 pub refused_number-once : (κs refusal : _) → Once (λ (r : ℕ). refused_number.Post κs (refusal, tt) r (refusal, tt))
 refused_number-once κs refusal = numbers_tell _
 
-pub count_number-once : (κs answer : _) → Once (λ (r : ℕ). count-number.Post κs (answer, tt) r (answer, tt))
+pub answer_number-once : (κs answer : _) → Once (λ (r : ℕ). answer_number.Post κs (answer, tt) r (answer, tt))
+answer_number-once κs answer = numbers_tell _
+
+pub count_number-once : (κs answer : _) → Once (λ (r : ℕ). count_number.Post κs (answer, tt) r (answer, tt))
 count_number-once κs answer = numbers_tell _

@@ -1,24 +1,53 @@
 -- What document 01 says of an answer: the value of an accepted call, or the number and the place of a refusal.
 -- Definitions only.
-use Rattle.std.specs.Prelude.{Bool, true, false, cond, ◌≡◌, ℕ, ◌+◌, ◌*◌, ◌/◌, ◌%◌, ◌^◌, ltb}
-use Rattle.refusal.specs.declared.Counted.{Counted}
-use Rattle.refusal.specs.declared.Counted.TheVariants as counted
-use Rattle.refusal.specs.declared.Put.{Put}
-use Rattle.refusal.specs.declared.Put.TheVariants as put
+use Rattle.std.specs.Prelude.{Bool, true, false, cond, ◌≡◌, ℕ, ◌+◌, ◌*◌, ◌/◌, ◌%◌, ◌^◌, ltb, Result, Ok, Err}
+use Rattle.refusal.specs.declared.Refusal.{Refusal}
+use Rattle.refusal.specs.declared.Refusal.TheVariants as refusal
+use Rattle.refusal.specs.Numbers.{unknown_code, unknown_rate, too_many, short_output, short_scratch, bad_reading}
+use Rattle.refusal.specs.Numbers.{bad_component, bad_bit, queue_full, bad_input, bad_byte, bad_signed_byte}
 
 pub data Said (A : Type 0) : Type 0 where
   accepted : A → Said A
   refused : (number place : ℕ) → Said A
 
--- a count, or the refusal's number and place
-abbrev pub count_said : Counted → Said ℕ
-count_said (counted.Count n) = accepted n
-count_said (counted.Refused r) = refused r.number r.place
+-- nothing but that it is done
+abbrev pub done : Said (Unit {0})
+done = accepted tt
 
--- nothing but that it is done, or the refusal's number and place
-abbrev pub done_said : Put → Said Unit
-done_said put.Done = accepted tt
-done_said (put.Refused r) = refused r.number r.place
+-- a refusal's number
+abbrev pub number_of : Refusal → ℕ
+number_of refusal.UnknownCode = unknown_code
+number_of refusal.UnknownRate = unknown_rate
+number_of refusal.TooMany = too_many
+number_of refusal.ShortOutput = short_output
+number_of refusal.ShortScratch = short_scratch
+number_of (refusal.BadReading at) = bad_reading
+number_of (refusal.BadComponent at) = bad_component
+number_of refusal.BadBit = bad_bit
+number_of refusal.QueueFull = queue_full
+number_of refusal.BadInput = bad_input
+number_of refusal.BadByte = bad_byte
+number_of (refusal.BadSignedByte at) = bad_signed_byte
+
+-- and its place: the index of the first bad value where it is about one, else 0
+abbrev pub place_of : Refusal → ℕ
+place_of (refusal.BadReading at) = at
+place_of (refusal.BadComponent at) = at
+place_of (refusal.BadSignedByte at) = at
+place_of refusal.UnknownCode = 0
+place_of refusal.UnknownRate = 0
+place_of refusal.TooMany = 0
+place_of refusal.ShortOutput = 0
+place_of refusal.ShortScratch = 0
+place_of refusal.BadBit = 0
+place_of refusal.QueueFull = 0
+place_of refusal.BadInput = 0
+place_of refusal.BadByte = 0
+
+-- what an entry answers: its value, or the refusal's number and place
+abbrev pub answer_said : {A : Type 0} → Result A Refusal → Said A
+answer_said (Ok a) = accepted a
+answer_said (Err r) = refused (number_of r) (place_of r)
 
 -- Refusal `number` at place 0 exactly when the test holds. Tests stand in 01's order, lowest number first, one within
 -- the other; in the Varicode writer 11 comes before 9.
@@ -43,8 +72,8 @@ unfoldable pub door_read : ℕ → Said ℕ
 door_read n = cond (ltb n (2 ^ 32)) (accepted n) (refused (n / 2 ^ 32) (n % 2 ^ 32))
 
 -- How a promise reads an answer: an entry's as 01 says it, a door's as the number of what 01 says.
-abbrev pub Counts : Counted → Said ℕ → Type 0
-Counts r said = count_said r ≡ said
+abbrev pub Says : {A : Type 0} → Result A Refusal → Said A → Type 0
+Says r said = answer_said r ≡ said
 
 abbrev pub Numbers : ℕ → Said ℕ → Type 0
 Numbers r said = r ≡ door_number said

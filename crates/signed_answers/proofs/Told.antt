@@ -1,26 +1,11 @@
--- An answer with a whole score is fixed by what is said of it: two of which the same is said are equal. And the score's 32 bits
--- tell the score. Assumes nothing.
+-- A door's answer with a whole score is fixed by what is said of it, and the score's 32 bits tell the score. Assumes nothing.
 use mathlib.Core.Path.{◌≡◌, sym, ap, ◌∙◌}
 use Prim.Native.Nat.{suc, ◌-◌, ◌^◌, ◌<◌}
 use native.Mathlib.Omega.{arith}
 use borrow.Author.Tests.{lt-ltb, le-ltb}
 use lib.IntN.{ℤ, pos, negsuc, nat_abs}
 use Rattle.refusal.proofs.Determined.{Telling}
-use Rattle.refusal.proofs.Told.{same_refusal}
-use Rattle.signed_answers.specs.Answer.{word_said, twos_complement, read_signed, Scores, ScoreNumbers}
-use Rattle.signed_answers.specs.declared.Decoded.{Decoded}
-use Rattle.signed_answers.specs.declared.Decoded.TheVariants as decoded
-
-word_told : (a b : Decoded) → word_said a ≡ word_said b → a ≡ b
-word_told (decoded.Word m) (decoded.Word n) e = cc
-word_told (decoded.Word m) (decoded.Refused r) e = cc
-word_told (decoded.Refused q) (decoded.Word n) e = cc
-word_told (decoded.Refused q) (decoded.Refused r) e = ap decoded.Refused (same_refusal q r (cc) (cc))
-
--- so of each way to read it
-
-pub scores_tell : Telling Scores
-scores_tell said r r' p q = word_told r r' (p ∙ sym q)
+use Rattle.signed_answers.specs.Answer.{twos_complement, read_signed, ScoreNumbers}
 
 pub score_numbers_tell : Telling ScoreNumbers
 score_numbers_tell said r r' p q = p ∙ sym q

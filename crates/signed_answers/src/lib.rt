@@ -1,35 +1,16 @@
 // Answers that carry a score in whole numbers of 32 bits.
 #![tactic(auto)]
 
-ghost use Rattle.std.specs.Prelude.{◌≡◌};
-ghost use Rattle.signed_answers.specs.Answer.{word_said, twos_complement, ScoreNumbers};
+ghost use Rattle.refusal.specs.Answer.{answer_said};
+ghost use Rattle.signed_answers.specs.Answer.{ScoreNumbers};
 
 use refusal::Refusal;
 
-// The answer of the block decoder of signed bytes: the word stands in the lent output, and its score is
-// carried here; or a refusal.
-#[derive(Clone, Copy)]
-pub enum Decoded {
-    Word(i32),
-    Refused(Refusal),
-}
-
-// The 32 bits of a score.
-fn score_bits(score: i32) -> u64
-    ensures { result ≡ twos_complement score }
+// The answer of the block decoder of signed bytes as the one number that a door returns: the word stands in the lent
+// output, and its score is carried here, by its bits in two's complement.
+#[tactic(auto, using(crate::proofs::Bits::cast_bits))]
+pub fn word_number(answer: Result<i32, Refusal>) -> u64
+    ensures { ScoreNumbers result (answer_said answer) }
 {
-    if score < 0 {
-        return (score as i64 + 0x1_0000_0000) as u64;
-    }
-    score as u64
-}
-
-// That answer as the one number that a door returns.
-pub fn word_number(answer: Decoded) -> u64
-    ensures { ScoreNumbers result (word_said answer) }
-{
-    match answer {
-        Decoded::Word(score) => score_bits(score),
-        Decoded::Refused(r) => refusal::refused_number(r),
-    }
+    refusal::answer_number(answer.map(|score| score.cast_unsigned() as u64))
 }

@@ -12,7 +12,8 @@ use lib.Signed.{lt_z, mag}
 use mir.Syntax.{w8}
 use mir.Val.{hbits, to_z, of_z}
 use mir.ValLaws.{to_z-of_z}
-use Rattle.refusal.proofs.FirstBad.{Sought, sought_starts, none_found, found_here, sought_goes_on}
+use Rattle.std.specs.Prelude.{Some, None}
+use Rattle.refusal.proofs.FirstBad.{Sought, sought_starts, none_found, found_here, sought_goes_on, finds_bad, finds_none}
 use Rattle.signed_butterflies.specs.Held.{Byte}
 use Rattle.signed_readings.specs.Inner.{FirstLow}
 use Rattle.signed_readings.specs.Said.{is_reading}
@@ -34,18 +35,20 @@ pub low_sought_starts : {readings : List ℤ} → LowSought readings 0
 low_sought_starts = record { sought = sought_starts is_reading; bytes = λ j h. absurd (omega (arith, h)) }
 
 module _ {readings : List ℤ} {i : ℕ} (now : LowSought readings i) where
-  pub none_low : length readings ≤ i → i ≤ length readings → FirstLow readings (length readings)
-  none_low past within =
-      let end : i ≡ length readings = omega arith in
-      record { place = none_found is_reading now.sought past; bytes = rw end at now.bytes }
+  pub none_low : length readings ≤ i → FirstLow readings None
+  none_low past =
+      record {
+        place = finds_none is_reading readings (omega (arith, none_found is_reading now.sought past));
+        bytes = λ none j h. now.bytes j (omega (arith, past, h));
+      }
 
   module _ (h : i < length readings) (known : mag (get_or readings i (pos 0)) < 2 ^ hbits w8) where
-    pub low_here : lt_z (to_z w8 (of_z w8 (get_or readings i (pos 0)))) (negsuc 126) ≡ true → FirstLow readings i
+    pub low_here : lt_z (to_z w8 (of_z w8 (get_or readings i (pos 0)))) (negsuc 126) ≡ true → FirstLow readings (Some i)
     low_here e =
         let low = low_test (get_or readings i (pos 0)) true known e in
         record {
-          place = found_here is_reading now.sought (pos 0) h refl (ap (λ (b : Bool). not (not b)) low);
-          bytes = now.bytes;
+          place = finds_bad is_reading readings i h (found_here is_reading now.sought (pos 0) h refl (ap (λ (b : Bool). not (not b)) low));
+          bytes = λ none. cc;
         }
 
     pub low_sought_goes_on : lt_z (to_z w8 (of_z w8 (get_or readings i (pos 0)))) (negsuc 126) ≡ false → LowSought readings (i + 1)

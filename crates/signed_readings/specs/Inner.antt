@@ -1,9 +1,9 @@
 -- What the inner functions ask and ensure. Definitions only.
-use Rattle.std.specs.Prelude.{List, ◌≡◌, ℕ, ◌*◌, ◌≤◌, ◌<◌, ℤ, pos, nat_abs, get_or}
+use Rattle.std.specs.Prelude.{List, ◌≡◌, ℕ, ◌*◌, ◌≤◌, ◌<◌, ℤ, pos, nat_abs, length, get_or, Option, None}
 use Rattle.best_path.specs.Path.{total}
 use Rattle.correlation.specs.Inner as any
 use Rattle.correlation.specs.Whole.{exactly}
-use Rattle.refusal.specs.First.{first_bad}
+use Rattle.refusal.specs.First.{FindsBad}
 use Rattle.refusal.specs.Lent.{Lent}
 use Rattle.signed_butterflies.specs.Held.{Byte}
 use Rattle.signed_forward.specs.Inner.{UsedBytes}
@@ -27,7 +27,7 @@ pub record Finds
   pub found : any.Finds exactly code p states info readings (total r) out scratch
   pub small : nat_abs r ≤ 254 * steps_of code info
 
--- `first_low`: the index r of the first −128; those before it are readings
-pub record FirstLow (readings : List ℤ) (r : ℕ) : Type 0 where
-  pub place : r ≡ first_bad is_reading readings
-  pub bytes : (i : ℕ) → i < r → Byte (get_or readings i (pos 0))
+-- `first_low`: the index of the first −128; where there is none, all are readings
+pub record FirstLow (readings : List ℤ) (r : Option ℕ) : Type 0 where
+  pub place : FindsBad is_reading readings r
+  pub bytes : r ≡ None → (i : ℕ) → i < length readings → Byte (get_or readings i (pos 0))

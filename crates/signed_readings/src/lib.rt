@@ -3,15 +3,13 @@
 #![tactic(auto)]
 
 ghost use Rattle.std.specs.Prelude.{◌≡◌, ◌*◌};
-ghost use Rattle.refusal.specs.Answer.{refused};
+ghost use Rattle.refusal.specs.Answer.{Says};
 ghost use Rattle.refusal.specs.Lent.{lent};
-ghost use Rattle.signed_answers.specs.Answer.{word_said, Scores};
 ghost use Rattle.trellis.specs.Choice.{keep_of};
 ghost use Rattle.signed_readings.specs.Promise.{Decodes};
 ghost use Rattle.signed_readings.specs.Inner.{Decodable, Finds, FirstLow};
 
 use refusal::Refusal;
-use signed_answers::Decoded;
 use signed_forward::forward;
 use trellis::{ConvCode, KeepPattern};
 
@@ -35,25 +33,17 @@ fn decode(
     score
 }
 
-// The refusal of a call whose answer is a word.
-fn no_word(number: u8, place: u32) -> Decoded
-    ensures { word_said result ≡ refused number place }
-{
-    Decoded::Refused(Refusal { number, place })
-}
-
-// The place of refusal 12: the index of the first −128, and the length where there is none.
-fn first_low(readings: &[i8]) -> usize
+// The place of refusal 12: the index of the first −128, if there is one. A loop: of signed numbers a chain of iterators
+// does not say that they are of eight bits.
+fn first_low(readings: &[i8]) -> Option<usize>
     ensures { FirstLow readings.now result }
 {
-    let used = readings.len();
-    for i in 0..used {
-        let reading = readings[i];
-        if reading < -127 {
-            return i;
+    for (i, reading) in readings.iter().enumerate() {
+        if *reading < -127 {
+            return Some(i);
         }
     }
-    used
+    None
 }
 
 // The word that the readings fit best, its score, and the survivors of each step in scratch.
@@ -64,19 +54,24 @@ pub fn viterbi_decode_signed_with(
     rate: u8,
     out: &mut [u8],
     scratch: &mut [u8],
-) -> Decoded
-    ensures { Decodes (Scores result) code rate info readings.now (lent out) (lent scratch) }
+) -> Result<i32, Refusal>
+    ensures { Decodes (Says result) code rate info readings.now (lent out) (lent scratch) }
 {
-    let ready = correlation::prepare(code, rate, info, readings.len(), out.len(), scratch.len());
-    if ready.number != 0 {
-        return no_word(ready.number, 0);
+    let ready = correlation::prepare(code, rate, info, readings.len(), out.len(), scratch.len())?;
+    match first_low(&readings[..ready.used]) {
+        Some(low) => Err(Refusal::BadSignedByte(low as u32)),
+        None => {
+            let chosen = ready.chosen;
+            let score = decode(
+                chosen.code,
+                ready.half,
+                chosen.keep,
+                readings,
+                info,
+                out,
+                scratch,
+            );
+            Ok(score)
+        }
     }
-    let low = first_low(&readings[..ready.used]);
-    if low < ready.used {
-        return no_word(refusal::BAD_SIGNED_BYTE, low as u32);
-    }
-    let chosen = ready.chosen;
-    let half = ready.half;
-    let score = decode(chosen.code, half, chosen.keep, readings, info, out, scratch);
-    Decoded::Word(score)
 }

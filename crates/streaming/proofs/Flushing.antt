@@ -10,9 +10,9 @@ use lib.Dec.{ltb}
 use lib.ListN.{length, replicate, set}
 use Rattle.best_path.proofs.Candidates.{where_true, where_false}
 use Rattle.f32s.specs.Single.{zero32}
-use Rattle.refusal.specs.declared.Counted.{Counted}
-use Rattle.refusal.specs.declared.Counted.TheVariants as counted
-use Rattle.refusal.specs.Answer.{accepted, refused, Counts}
+use Rattle.std.specs.Prelude.{Result, Ok, Err}
+use Rattle.refusal.specs.declared.Refusal.TheVariants as refusal
+use Rattle.refusal.specs.Answer.{accepted, refused, Says}
 use Rattle.refusal.specs.Lent.{Lent}
 use Rattle.refusal.specs.Numbers.{short_output}
 use Rattle.refusal.proofs.Filling.{Written, as_before, one_more, written_inside}
@@ -51,13 +51,13 @@ module _ (code : ConvCode) (late : ℕ) (st : State) (room : ℕ) where
       flush_is_run code late st ∙ where_false (ltb room late) st (flushed code late st) (le-ltb room late h)
 
 pub room_refused :
-    {front : Front} {history out : List ℕ} (answer : Counted) → Counts answer (refused short_output 0) → length out < lag →
-    FlushesLent front (record { answer = answer; front = front }) (record { given = history; left = history })
+    {front : Front} {history out : List ℕ} → length out < lag →
+    FlushesLent front (record { answer = Err refusal.ShortOutput; coder = front }) (record { given = history; left = history })
     (record { given = out; left = out })
-room_refused {front} {history} {out} answer says h =
+room_refused {front} {history} {out} h =
     let st = state_of front history in
     record {
-      writes = writes_refused (refused_said k5 lag st (length out) h) says refl;
+      writes = writes_refused (refused_said k5 lag st (length out) h) refl refl;
       state = refused_state k5 lag st (length out) h;
     }
 
@@ -119,7 +119,7 @@ module _ {front₀ : Front} {history₀ old : List ℕ} {i : ℕ} {front : Front
 
   pub flushing_ends :
       {history : List ℕ} → Flushing front₀ history₀ old i front history out written → lag ≤ i →
-      FlushesLent front₀ (record { answer = counted.Count written; front = front }) (record { given = history₀; left = history })
+      FlushesLent front₀ (record { answer = Ok written; coder = front }) (record { given = history₀; left = history })
       (record { given = old; left = out })
   flushing_ends {history} so_far h =
       let st = state_of front₀ history₀ in

@@ -10,6 +10,9 @@ use borrow.Author.Tests.{lt-ltb, le-ltb}
 use lib.Ieee.{Float}
 use lib.ListN.{drop}
 use Rattle.f32s.specs.Single.{within}
+use Rattle.std.specs.Prelude.{Option, Some, None, Result, Ok}
+use Rattle.refusal.specs.declared.Answered.{Answered}
+use Rattle.refusal.specs.declared.Refusal.{Refusal}
 use Rattle.refusal.specs.Answer.{accepted, refused}
 use Rattle.refusal.specs.Lent.{Lent}
 use Rattle.refusal.specs.Numbers.{bad_component}
@@ -17,8 +20,6 @@ use Rattle.trellis.specs.Choice.{k5}
 use Rattle.streaming_steps.specs.declared.Front.{Front}
 use Rattle.streaming_steps.specs.Steps.{lag, rows_kept, turns, new_mets, new_froms, normalised_at, kept}
 use Rattle.streaming_steps.specs.Inner.{SelectsNew, NormalisedAfter, Keeps}
-use Rattle.streaming.specs.declared.Emitted.TheVariants as emitted
-use Rattle.streaming.specs.declared.FedLent.{FedLent}
 use Rattle.streaming.specs.Stream.{State, fed, bit_behind, given}
 use Rattle.streaming.specs.Said.{of_symbol, feed_said, feed_leaves}
 use Rattle.streaming.specs.Decoder.{state_of}
@@ -79,7 +80,7 @@ module _ {A : Type 0} (re im : Float) (good bad_re bad_im : A) where
   where_bad_re : within re ≡ false → bad_re ≡ of_symbol re im good bad_re bad_im
   where_bad_re e = rw e
 
-module _ {front : Front} {history : List ℕ} {re im : Float} {r : FedLent} where
+module _ {front : Front} {history : List ℕ} {re im : Float} {r : Answered (Result (Option ℕ) Refusal) Front} where
   pub refused_re :
       RefusesAt 0 front r → within re ≡ false → FeedsLent front re im r (record { given = history; left = history })
   unfolding feed_said feed_leaves
@@ -114,10 +115,10 @@ module _
   said = ap (λ (st : State). accepted (given k5 lag st)) advances.state ∙ where_good re im _ _ _ re_in im_in
 
   pub nothing_yet :
-      next.count ≤ lag → FeedsLent front re im (record { answer = emitted.Nothing; front = next }) history
+      next.count ≤ lag → FeedsLent front re im (record { answer = Ok None; coder = next }) history
   nothing_yet h = record { answer = ap accepted (sym (none_given now h)) ∙ said; state = left_state }
 
   pub bit_emitted :
       {b : ℕ} → lag < next.count → b ≡ bit_behind k5 lag now →
-      FeedsLent front re im (record { answer = emitted.Bit b; front = next }) history
+      FeedsLent front re im (record { answer = Ok (Some b); coder = next }) history
   bit_emitted {b} h e = record { answer = ap accepted (sym (one_given now b h e)) ∙ said; state = left_state }

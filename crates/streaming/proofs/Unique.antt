@@ -5,15 +5,13 @@ use mathlib.Core.List.{List}
 use mathlib.Core.Path.{◌≡◌, ap, ap₂, sym, ◌∙◌}
 use Prim.Native.Nat.{ℕ}
 use lib.Ieee.{Float}
-use Rattle.refusal.specs.Answer.{Said, Counts}
-use Rattle.refusal.specs.declared.Counted.{Counted}
-use Rattle.refusal.proofs.Told.{same_refusal, counts_tell}
+use Rattle.std.specs.Prelude.{Option, Some, None, Result, Ok, Err}
+use Rattle.refusal.specs.Answer.{Said, Says}
+use Rattle.refusal.specs.declared.Answered.{Answered}
+use Rattle.refusal.specs.declared.Refusal.{Refusal}
+use Rattle.refusal.proofs.Told.{same_refusal, says_tell}
 use Rattle.refusal.proofs.Determined.{Once, OnceLeft, Determined₂, Determined₃, Telling}
 use Rattle.streaming.specs.declared.StreamingViterbi.{StreamingViterbi}
-use Rattle.streaming.specs.declared.Emitted.{Emitted}
-use Rattle.streaming.specs.declared.Emitted.TheVariants as emitted
-use Rattle.streaming.specs.declared.Fed.{Fed}
-use Rattle.streaming.specs.declared.Flushed.{Flushed}
 use Rattle.streaming.specs.Stream.{State}
 use Rattle.streaming.specs.Said.{emitted_said, Emits}
 use Rattle.streaming.specs.Decoder.{held}
@@ -49,25 +47,22 @@ pub held_told : (d e : StreamingViterbi) → held d ≡ held e → d ≡ e
 held_told d e = ap decoder_of
 
 -- two answers to a symbol of which document 01 says the same are equal
-pub emitted_told : (a b : Emitted) → emitted_said a ≡ emitted_said b → a ≡ b
-emitted_told (emitted.Bit m) (emitted.Bit n) e = cc
-emitted_told (emitted.Bit m) emitted.Nothing e = cc
-emitted_told (emitted.Bit m) (emitted.Refused r) e = cc
-emitted_told emitted.Nothing (emitted.Bit n) e = cc
-emitted_told emitted.Nothing emitted.Nothing e = cc
-emitted_told emitted.Nothing (emitted.Refused r) e = cc
-emitted_told (emitted.Refused q) (emitted.Bit n) e = cc
-emitted_told (emitted.Refused q) emitted.Nothing e = cc
-emitted_told (emitted.Refused q) (emitted.Refused r) e = ap emitted.Refused (same_refusal q r (cc) (cc))
+pub emitted_told : (a b : Result (Option ℕ) Refusal) → emitted_said a ≡ emitted_said b → a ≡ b
+emitted_told (Ok (Some m)) (Ok (Some n)) e = cc
+emitted_told (Ok (Some m)) (Ok None) e = cc
+emitted_told (Ok (Some m)) (Err r) e = cc
+emitted_told (Ok None) (Ok (Some n)) e = cc
+emitted_told (Ok None) (Ok None) e = cc
+emitted_told (Ok None) (Err r) e = cc
+emitted_told (Err q) (Ok (Some n)) e = cc
+emitted_told (Err q) (Ok None) e = cc
+emitted_told (Err q) (Err r) e = ap Err (same_refusal q r (cc) (cc))
 
 pub emits_tell : Telling Emits
 emits_tell said r r' p q = emitted_told r r' (p ∙ sym q)
 
-abbrev fed : Emitted → StreamingViterbi → Fed
-fed a d = record { answer = a; decoder = d }
-
-abbrev flushed : Counted → StreamingViterbi → Flushed
-flushed a d = record { answer = a; decoder = d }
+abbrev answered : {A : Type 0} → A → StreamingViterbi → Answered A StreamingViterbi
+answered a d = record { answer = a; coder = d }
 
 -- ---- by value
 
@@ -75,30 +70,30 @@ pub new_once : (κs : _) → Once (λ (r : StreamingViterbi). new.Post κs tt r 
 new_once κs r r' p q = held_told r r' (p.state ∙ sym q.state)
 
 pub feed_symbol-once :
-    (κs d re im : _) → Once (λ (r : Fed). feed_symbol.Post κs (d, (re, (im, tt))) r (d, (re, (im, tt))))
+    (κs d re im : _) → Once (λ (r : Answered (Result (Option ℕ) Refusal) StreamingViterbi). feed_symbol.Post κs (d, (re, (im, tt))) r (d, (re, (im, tt))))
 feed_symbol-once κs d re im r r' p q =
     let (answer, state) = feeds_once Emits emits_tell (held d) re im r.answer r'.answer _ _ p q in
-    ap₂ fed answer (held_told r.decoder r'.decoder state)
+    ap₂ answered answer (held_told r.coder r'.coder state)
 
 pub flush_by_value_once :
-    (κs d out : _) → OnceLeft (λ (r : Flushed) left. flush_by_value.Post κs (d, (out, tt)) r (d, (left, tt)))
+    (κs d out : _) → OnceLeft (λ (r : Answered (Result ℕ Refusal) StreamingViterbi) left. flush_by_value.Post κs (d, (out, tt)) r (d, (left, tt)))
 flush_by_value_once κs d out r r' left left' p q =
-    let (answer, state, output) = flushes_once Counts counts_tell (held d) out.now r.answer r'.answer _ _ _ _ p q in
-    (ap₂ flushed answer (held_told r.decoder r'.decoder state), output)
+    let (answer, state, output) = flushes_once Says says_tell (held d) out.now r.answer r'.answer _ _ _ _ p q in
+    (ap₂ answered answer (held_told r.coder r'.coder state), output)
 
 -- ---- in place
 
 pub feed_in_place_once :
     (d : StreamingViterbi) (re im : Float) →
-    Determined₂ (λ (r : Emitted) (left : StreamingViterbi). Feeds (Emits r) (held d) (held left) re im)
+    Determined₂ (λ (r : Result (Option ℕ) Refusal) (left : StreamingViterbi). Feeds (Emits r) (held d) (held left) re im)
 feed_in_place_once d re im r r' left left' p q =
     let (answer, state) = feeds_once Emits emits_tell (held d) re im r r' _ _ p q in
     (answer, held_told left left' state)
 
 pub flush_in_place_once :
     (d : StreamingViterbi) (old : List ℕ) →
-    Determined₃ (λ (r : Counted) (left : StreamingViterbi) (out : List ℕ).
-    Flushes (Counts r) (held d) (held left) (record { given = old; left = out }))
+    Determined₃ (λ (r : Result ℕ Refusal) (left : StreamingViterbi) (out : List ℕ).
+    Flushes (Says r) (held d) (held left) (record { given = old; left = out }))
 flush_in_place_once d old r r' left left' out out' p q =
-    let (answer, state, output) = flushes_once Counts counts_tell (held d) old r r' _ _ out out' p q in
+    let (answer, state, output) = flushes_once Says says_tell (held d) old r r' _ _ out out' p q in
     (answer, held_told left left' state, output)

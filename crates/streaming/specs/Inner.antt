@@ -1,32 +1,32 @@
 -- What the inner functions ask and ensure. Definitions only.
-use Rattle.std.specs.Prelude.{◌≡◌, ℕ, Float}
-use Rattle.refusal.specs.Answer.{refused, Counts}
+use Rattle.std.specs.Prelude.{◌≡◌, ℕ, Float, Option, Result}
+use Rattle.refusal.specs.declared.Answered.{Answered}
+use Rattle.refusal.specs.declared.Refusal.{Refusal}
+use Rattle.refusal.specs.Answer.{refused, Says}
 use Rattle.refusal.specs.Lent.{Lent}
 use Rattle.refusal.specs.Numbers.{bad_component}
 use Rattle.trellis.specs.Choice.{k5}
 use Rattle.streaming_steps.specs.declared.Front.{Front}
 use Rattle.streaming_steps.specs.Steps.{lag}
-use Rattle.streaming.specs.declared.FedLent.{FedLent}
-use Rattle.streaming.specs.declared.FlushedLent.{FlushedLent}
 use Rattle.streaming.specs.Stream.{fed}
 use Rattle.streaming.specs.Said.{emitted_said, Emits}
 use Rattle.streaming.specs.Decoder.{state_of}
 use Rattle.streaming.specs.Promise.{Feeds, Flushes}
 
 -- `refused_at`: refusal 7, and the front as it came
-pub record RefusesAt (place : ℕ) (front : Front) (r : FedLent) : Type 0 where
+pub record RefusesAt (place : ℕ) (front : Front) (r : Answered (Result (Option ℕ) Refusal) Front) : Type 0 where
   pub answer : emitted_said r.answer ≡ refused bad_component place
-  pub state : r.front ≡ front
+  pub state : r.coder ≡ front
 
 -- `advance`: the front r and the history are the state after the symbol
 pub record Advances (front : Front) (re im : Float) (r : Front) (history : Lent ℕ) : Type 0 where
   pub state : state_of r history.left ≡ fed k5 lag (state_of front history.given) re im
 
 -- `feed_lent`, `flush_lent`: the promises of the entries, of a front and a history
-abbrev pub FeedsLent : Front → (re im : Float) → FedLent → (history : Lent ℕ) → Type 0
+abbrev pub FeedsLent : Front → (re im : Float) → Answered (Result (Option ℕ) Refusal) Front → (history : Lent ℕ) → Type 0
 FeedsLent front re im r history =
-    Feeds (Emits r.answer) (state_of front history.given) (state_of r.front history.left) re im
+    Feeds (Emits r.answer) (state_of front history.given) (state_of r.coder history.left) re im
 
-abbrev pub FlushesLent : Front → FlushedLent → (history out : Lent ℕ) → Type 0
+abbrev pub FlushesLent : Front → Answered (Result ℕ Refusal) Front → (history out : Lent ℕ) → Type 0
 FlushesLent front r history out =
-    Flushes (Counts r.answer) (state_of front history.given) (state_of r.front history.left) out
+    Flushes (Says r.answer) (state_of front history.given) (state_of r.coder history.left) out

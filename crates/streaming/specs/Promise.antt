@@ -1,5 +1,5 @@
 -- What the entries promise, by value and in place alike: each contract is one of these. `given` is the decoder's state
--- at entry and `left` the state after the call, `Answers` how the caller reads the answer (`Emits r` or `Counts r`),
+-- at entry and `left` the state after the call, `Answers` how the caller reads the answer (`Emits r` or `Says r`),
 -- `out` the lent buffer. Definitions only.
 use Rattle.std.specs.Prelude.{List, ◌≡◌, ℕ, Float, length}
 use Rattle.refusal.specs.Answer.{Said}

@@ -1,11 +1,10 @@
 -- What `feed_symbol` and `flush` answer, and what they leave, for every state and symbol. Definitions only.
-use Rattle.std.specs.Prelude.{cond, List, [], ◌∷◌, ◌≡◌, ℕ, ltb, Float, length}
+use Rattle.std.specs.Prelude.{cond, List, [], ◌∷◌, ◌≡◌, ℕ, ltb, Float, length, Option, Some, None, Result, Ok, Err}
 use Rattle.f32s.specs.Single.{within}
-use Rattle.refusal.specs.Answer.{Said, accepted, refused, refuse_when}
+use Rattle.refusal.specs.declared.Refusal.{Refusal}
+use Rattle.refusal.specs.Answer.{Said, accepted, refused, refuse_when, number_of, place_of}
 use Rattle.refusal.specs.Numbers.{short_output, bad_component}
 use Rattle.trellis.specs.declared.ConvCode.{ConvCode}
-use Rattle.streaming.specs.declared.Emitted.{Emitted}
-use Rattle.streaming.specs.declared.Emitted.TheVariants as emitted
 use Rattle.streaming.specs.Stream.{State, fed, given}
 use Rattle.streaming.specs.Run.{flushed, flush_gives}
 
@@ -36,10 +35,10 @@ module _ (code : ConvCode) (lag : ℕ) (st : State) where
   flush_leaves room = cond (ltb room lag) st (flushed code lag st)
 
 -- no bit, or one, or the refusal's number and place
-abbrev pub emitted_said : Emitted → Said (List ℕ)
-emitted_said (emitted.Bit b) = accepted (b ∷ [])
-emitted_said emitted.Nothing = accepted []
-emitted_said (emitted.Refused r) = refused r.number r.place
+abbrev pub emitted_said : Result (Option ℕ) Refusal → Said (List ℕ)
+emitted_said (Ok (Some b)) = accepted (b ∷ [])
+emitted_said (Ok None) = accepted []
+emitted_said (Err r) = refused (number_of r) (place_of r)
 
 -- the bits of an answer: none of a refused symbol
 abbrev pub bits_in : Said (List ℕ) → List ℕ
@@ -47,5 +46,5 @@ bits_in (accepted bits) = bits
 bits_in (refused number place) = []
 
 -- how a promise reads a symbol's answer
-abbrev pub Emits : Emitted → Said (List ℕ) → Type 0
+abbrev pub Emits : Result (Option ℕ) Refusal → Said (List ℕ) → Type 0
 Emits r said = emitted_said r ≡ said

@@ -2,7 +2,7 @@
 #![tactic(auto)]
 
 ghost use Rattle.std.specs.Prelude.{◌≡◌, suc, ◌+◌, ◌%◌, min};
-ghost use Rattle.refusal.specs.Answer.{Counts};
+ghost use Rattle.refusal.specs.Answer.{Says};
 ghost use Rattle.refusal.specs.Lent.{lent};
 ghost use Rattle.trellis.specs.Choice.{k5};
 ghost use Rattle.streaming_steps.specs.Steps.{lag, turns};
@@ -13,7 +13,7 @@ ghost use Rattle.streaming.specs.Promise.{Begins, Feeds, Flushes};
 ghost use Rattle.streaming.specs.Inner.{RefusesAt, Advances, FeedsLent, FlushesLent};
 
 use butterflies::smallest::MARK;
-use refusal::{Counted, Refusal};
+use refusal::{Answered, Refusal};
 use streaming_steps::history::{keep, state_behind, top_bit};
 use streaming_steps::metrics::{normalise_after, select};
 use streaming_steps::{Front, LAG};
@@ -34,40 +34,7 @@ pub struct StreamingViterbi {
 }
 
 // What a symbol gives: a bit, or nothing yet; or a refusal.
-#[derive(Clone, Copy)]
-pub enum Emitted {
-    Bit(u8),
-    Nothing,
-    Refused(Refusal),
-}
-
-// A symbol's answer, and the decoder after it.
-#[derive(Clone, Copy)]
-pub struct Fed {
-    pub answer: Emitted,
-    pub decoder: StreamingViterbi,
-}
-
-// The same where the history is lent.
-#[derive(Clone, Copy)]
-pub struct FedLent {
-    pub answer: Emitted,
-    pub front: Front,
-}
-
-// A flush's answer, and the decoder after it.
-#[derive(Clone, Copy)]
-pub struct Flushed {
-    pub answer: Counted,
-    pub decoder: StreamingViterbi,
-}
-
-// The same where the history is lent.
-#[derive(Clone, Copy)]
-pub struct FlushedLent {
-    pub answer: Counted,
-    pub front: Front,
-}
+pub type Emitted = Result<Option<u8>, Refusal>;
 
 // The counter of symbols up to one more than the lag, after one more of them.
 fn next_count(count: u8) -> u8
@@ -85,15 +52,12 @@ fn next_turn(turn: u8) -> u8
 }
 
 // Refusal 7: the front as it came.
-fn refused_at(place: u32, front: Front) -> FedLent
+fn refused_at(place: u32, front: Front) -> Answered<Emitted, Front>
     ensures { RefusesAt place front result }
 {
-    FedLent {
-        answer: Emitted::Refused(Refusal {
-            number: refusal::BAD_COMPONENT,
-            place,
-        }),
-        front,
+    Answered {
+        answer: Err(Refusal::BadComponent(place)),
+        coder: front,
     }
 }
 
@@ -126,7 +90,7 @@ fn bit_behind(front: Front, history: &[u8; 2048]) -> u8
 }
 
 // A symbol, where the history is lent.
-fn feed_lent(front: Front, history: &mut [u8; 2048], re: f32, im: f32) -> FedLent
+fn feed_lent(front: Front, history: &mut [u8; 2048], re: f32, im: f32) -> Answered<Emitted, Front>
     ensures { FeedsLent front re im result (lent history) }
 {
     let re_good = f32s::within(re);
@@ -139,26 +103,30 @@ fn feed_lent(front: Front, history: &mut [u8; 2048], re: f32, im: f32) -> FedLen
     }
     let next = advance(front, history, re, im);
     if next.count < FULL {
-        return FedLent {
-            answer: Emitted::Nothing,
-            front: next,
+        return Answered {
+            answer: Ok(None),
+            coder: next,
         };
     }
     let bit = bit_behind(next, history);
-    FedLent {
-        answer: Emitted::Bit(bit),
-        front: next,
+    Answered {
+        answer: Ok(Some(bit)),
+        coder: next,
     }
 }
 
 // A flush, where the history is lent: as many symbols (0, 0) as a bit comes late.
-fn flush_lent(front: Front, history: &mut [u8; 2048], out: &mut [u8]) -> FlushedLent
+fn flush_lent(
+    front: Front,
+    history: &mut [u8; 2048],
+    out: &mut [u8],
+) -> Answered<Result<usize, Refusal>, Front>
     ensures { FlushesLent front result (lent history) (lent out) }
 {
     if out.len() < LAG {
-        return FlushedLent {
-            answer: refusal::no_count(refusal::SHORT_OUTPUT),
-            front,
+        return Answered {
+            answer: Err(Refusal::ShortOutput),
+            coder: front,
         };
     }
     let mut at = front;
@@ -170,9 +138,9 @@ fn flush_lent(front: Front, history: &mut [u8; 2048], out: &mut [u8]) -> Flushed
             written += 1;
         }
     }
-    FlushedLent {
-        answer: Counted::Count(written),
-        front: at,
+    Answered {
+        answer: Ok(written),
+        coder: at,
     }
 }
 
@@ -193,33 +161,33 @@ impl StreamingViterbi {
     }
 
     // One symbol: a bit, or nothing up to the lag; or refusal 7, which leaves the decoder as it was.
-    pub fn feed_symbol(self, re: f32, im: f32) -> Fed
-        ensures { Feeds (Emits result.answer) (held self) (held result.decoder) re im }
+    pub fn feed_symbol(self, re: f32, im: f32) -> Answered<Emitted, StreamingViterbi>
+        ensures { Feeds (Emits result.answer) (held self) (held result.coder) re im }
     {
         let mut history = self.history;
         let before = self.front;
         let s = feed_lent(before, &mut history, re, im);
         let answer = s.answer;
-        let front = s.front;
-        Fed {
+        let front = s.coder;
+        Answered {
             answer,
-            decoder: StreamingViterbi { front, history },
+            coder: StreamingViterbi { front, history },
         }
     }
 
     // As many symbols (0, 0) as a bit comes late. The bits go to the front of out; or refusal 4, which
     // leaves everything as it was.
-    pub fn flush(self, out: &mut [u8]) -> Flushed
-        ensures { Flushes (Counts result.answer) (held self) (held result.decoder) (lent out) }
+    pub fn flush(self, out: &mut [u8]) -> Answered<Result<usize, Refusal>, StreamingViterbi>
+        ensures { Flushes (Says result.answer) (held self) (held result.coder) (lent out) }
     {
         let mut history = self.history;
         let before = self.front;
         let d = flush_lent(before, &mut history, out);
         let answer = d.answer;
-        let front = d.front;
-        Flushed {
+        let front = d.coder;
+        Answered {
             answer,
-            decoder: StreamingViterbi { front, history },
+            coder: StreamingViterbi { front, history },
         }
     }
 }
@@ -229,15 +197,15 @@ pub fn feed(d: &mut StreamingViterbi, re: f32, im: f32) -> Emitted
     ensures { Feeds (Emits result) (held d.old) (held d.new) re im }
 {
     let s = feed_lent(d.front, &mut d.history, re, im);
-    d.front = s.front;
+    d.front = s.coder;
     s.answer
 }
 
 // The same of a flush: the output is passed on.
-pub fn flush(d: &mut StreamingViterbi, out: &mut [u8]) -> Counted
-    ensures { Flushes (Counts result) (held d.old) (held d.new) (lent out) }
+pub fn flush(d: &mut StreamingViterbi, out: &mut [u8]) -> Result<usize, Refusal>
+    ensures { Flushes (Says result) (held d.old) (held d.new) (lent out) }
 {
     let s = flush_lent(d.front, &mut d.history, out);
-    d.front = s.front;
+    d.front = s.coder;
     s.answer
 }

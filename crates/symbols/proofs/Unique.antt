@@ -3,9 +3,9 @@
 -- nothing.
 use mathlib.Core.Path.{refl, sym, ◌∙◌}
 use Prim.Native.Nat.{ℕ}
-use Rattle.refusal.specs.Answer.{Counts}
+use Rattle.refusal.specs.Answer.{Says}
 use Rattle.refusal.proofs.Determined.{Once, OnceLeft, OnceBoth, both_once}
-use Rattle.refusal.proofs.Told.{counts_tell}
+use Rattle.refusal.proofs.Told.{says_tell}
 use Rattle.symbols.proofs.viterbi_decode.Reads as viterbi_decode
 use Rattle.symbols.proofs.viterbi_decode_hard.Reads as viterbi_decode_hard
 use Rattle.symbols.proofs.forward_pass.step.Reads as step
@@ -15,12 +15,12 @@ use Rattle.symbols.proofs.forward_pass.forward.Reads as forward
 pub decodes_symbols_once :
     (κs soft out scratch : _) →
     OnceBoth (λ r left work. viterbi_decode.Post κs (soft, (out, (scratch, tt))) r (soft, (left, (work, tt))))
-decodes_symbols_once κs soft out scratch = both_once Counts counts_tell _ _ _ _ _
+decodes_symbols_once κs soft out scratch = both_once Says says_tell _ _ _ _ _
 
 pub decodes_hard_once :
     (κs bits out scratch : _) →
     OnceBoth (λ r left work. viterbi_decode_hard.Post κs (bits, (out, (scratch, tt))) r (bits, (left, (work, tt))))
-decodes_hard_once κs bits out scratch = both_once Counts counts_tell _ _ _ _ _
+decodes_hard_once κs bits out scratch = both_once Says says_tell _ _ _ _ _
 
 -- ---- parts
 

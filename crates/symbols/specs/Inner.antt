@@ -6,7 +6,6 @@ use Rattle.std.specs.Float.Ieee.{lt}
 use Rattle.best_path.specs.Step.{Cell, step}
 use Rattle.refusal.specs.Lent.{Lent}
 use Rattle.refusal.specs.Limits.{most}
-use Rattle.refusal.specs.Numbers.{too_many, short_output, short_scratch}
 use Rattle.trellis.specs.declared.ConvCode.{ConvCode}
 use Rattle.trellis.specs.Choice.{k5}
 use Rattle.trellis.specs.Inner.{Halved, Crossed}
@@ -119,13 +118,3 @@ pub record Decodable
 pub record Finds (code : ConvCode) (soft : List Float) (count : ℕ) (out scratch : Lent ℕ) : Type 0 where
   pub output : out.left ≡ word code soft count ++ drop count out.given
   pub survivors : scratch.left ≡ filled_rows code soft count ++ drop (count * 2 ^ code.width) scratch.given
-
--- ---- the refusals that both entries share
-
--- `refused_room`: the number of the refusal among 3 to 5 that a call earns, and 0 where it passes them
-unfoldable pub room_refusal : (count room scratch : ℕ) → ℕ
-room_refusal count room scratch =
-    cond (ltb most count) too_many
-    (cond (ltb room count) short_output
-    (cond (ltb scratch (count * 2 ^ k5.width)) short_scratch
-    0))

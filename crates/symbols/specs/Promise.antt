@@ -1,4 +1,4 @@
--- What the entries promise: each contract is one of these. `Answers` is how the caller reads the answer (`Counts r` of
+-- What the entries promise: each contract is one of these. `Answers` is how the caller reads the answer (`Says r` of
 -- an entry, `Numbers r` of a function that answers by a door's number), `out` and `scratch` the lent buffers.
 -- Definitions only.
 use Rattle.std.specs.Prelude.{List, ℕ, Float, length}

@@ -1,18 +1,18 @@
 // The block decoders of symbols, soft and hard: K5, each symbol two coded bits as a phasor.
 #![tactic(auto)]
 
-ghost use Rattle.std.specs.Prelude.{◌≡◌};
-ghost use Rattle.refusal.specs.Answer.{Counts};
+ghost use Rattle.refusal.specs.Answer.{Says, done};
 ghost use Rattle.refusal.specs.Lent.{lent};
 ghost use Rattle.trellis.specs.Choice.{k5};
-ghost use Rattle.symbols.specs.Inner.{components, Decodable, Finds, room_refusal};
+ghost use Rattle.symbols.specs.Inner.{components, Decodable, Finds};
+ghost use Rattle.symbols.specs.Said.{room_for};
 ghost use Rattle.symbols.specs.Promise.{DecodesSymbols, DecodesHard};
 
 pub mod forward_pass;
 mod phasors;
 
 use forward_pass::{HALF, STATES, forward};
-use refusal::{Counted, Refusal};
+use refusal::Refusal;
 
 // All symbols, of components or of hard bits, and the way back. The word goes to the front of out, the survivors to the
 // front of scratch. The code is chosen here, where both entries come together, so that it is a constant in the loop.
@@ -25,58 +25,50 @@ fn decode(soft: &[f32], bits: &[u8], count: usize, out: &mut [u8], scratch: &mut
     best_path::trace(code, HALF, scratch, count, last, count, out);
 }
 
-// The refusals 3 to 5, in their order, of a call that brings so many symbols and is lent so much room: the number, or
-// 0 where there is none.
-#[tactic(auto, unfolding(crate::specs::Inner::room_refusal))]
-fn refused_room(count: usize, room: usize, scratch: usize) -> u8
-    ensures { result ≡ room_refusal count room scratch }
+// The refusals 3 to 5, in their order, of a call that brings so many symbols and is lent so much room.
+fn refused_room(count: usize, room: usize, scratch: usize) -> Result<(), Refusal>
+    ensures { Says result (room_for count room scratch done) }
 {
     if refusal::MOST < count {
-        return refusal::TOO_MANY;
+        return Err(Refusal::TooMany);
     }
     let rows = count * STATES;
     if room < count {
-        return refusal::SHORT_OUTPUT;
+        return Err(Refusal::ShortOutput);
     }
     if scratch < rows {
-        return refusal::SHORT_SCRATCH;
+        return Err(Refusal::ShortScratch);
     }
-    0
+    Ok(())
 }
 
 // The word that symbols fit best; re and im stand in turn, and an odd last component is ignored.
-pub fn viterbi_decode(soft: &[f32], out: &mut [u8], scratch: &mut [u8]) -> Counted
-    ensures { DecodesSymbols (Counts result) soft.now (lent out) (lent scratch) }
+pub fn viterbi_decode(soft: &[f32], out: &mut [u8], scratch: &mut [u8]) -> Result<usize, Refusal>
+    ensures { DecodesSymbols (Says result) soft.now (lent out) (lent scratch) }
 {
     let count = soft.len() / 2;
-    let number = refused_room(count, out.len(), scratch.len());
-    if number != 0 {
-        return refusal::no_count(number);
+    refused_room(count, out.len(), scratch.len())?;
+    match f32_answers::first_beyond(&soft[..2 * count]) {
+        Some(bad) => Err(Refusal::BadComponent(bad as u32)),
+        None => {
+            let no_bits: [u8; 0] = [];
+            decode(soft, &no_bits, count, out, scratch);
+            Ok(count)
+        }
     }
-    let used = 2 * count;
-    let bad = f32_answers::first_beyond(&soft[..used]);
-    if bad < used {
-        let place = bad as u32;
-        return Counted::Refused(Refusal {
-            number: refusal::BAD_COMPONENT,
-            place,
-        });
-    }
-    let no_bits: [u8; 0] = [];
-    decode(soft, &no_bits, count, out, scratch);
-    Counted::Count(count)
 }
 
 // The same of hard bits, two for each symbol; only the lowest bit of each byte counts.
-pub fn viterbi_decode_hard(bits: &[u8], out: &mut [u8], scratch: &mut [u8]) -> Counted
-    ensures { DecodesHard (Counts result) bits.now (lent out) (lent scratch) }
+pub fn viterbi_decode_hard(
+    bits: &[u8],
+    out: &mut [u8],
+    scratch: &mut [u8],
+) -> Result<usize, Refusal>
+    ensures { DecodesHard (Says result) bits.now (lent out) (lent scratch) }
 {
     let count = bits.len() / 2;
-    let number = refused_room(count, out.len(), scratch.len());
-    if number != 0 {
-        return refusal::no_count(number);
-    }
+    refused_room(count, out.len(), scratch.len())?;
     let no_components: [f32; 0] = [];
     decode(&no_components, bits, count, out, scratch);
-    Counted::Count(count)
+    Ok(count)
 }

@@ -1,23 +1,32 @@
 -- What holds of every code and keep pattern that numbers select: so much the laws over any of them ask. Each entry of
 -- the table is tried by computing, so a further entry needs no line here. Assumes nothing.
 use mathlib.Core.Bool.{Bool, true, false, cond, ◌&&◌}
-use mathlib.Core.List.{List, [], ◌∷◌, ◌++◌}
+use mathlib.Core.List.{List, [], ◌∷◌, ◌++◌, map}
 use mathlib.Core.Logic.{◌⊎◌, inl, inr}
-use mathlib.Core.Path.{◌≡◌, refl, sym, ap, ap₂, subst, ◌∙◌}
+use mathlib.Core.Path.{◌≡◌, refl, sym, ap, ap₂, subst}
 use Prim.Native.Nat.{ℕ, zero, suc, ◌-◌, ◌*◌, ◌%◌, ◌^◌, ◌≤◌, ◌<◌}
 use native.Mathlib.Nat.{div-one, mod-one}
 use native.Mathlib.Omega.{arith}
-use borrow.Author.Tests.{ltb-true, leb-true, eqb-true}
-use lib.Dec.{eqb, ltb, leb}
+use borrow.Author.Tests.{ltb-true, ltb-false, leb-true, eqb-true}
+use lib.Dec.{eqb, ltb, leb, lit<}
 use lib.ListN.{length, get_or, replicate, length-append, get_or-eq_default}
 use lib.Seq.{take_at}
+use Rattle.std.specs.Result.{result_unwrap_or}
+use Rattle.std.specs.Prelude.{Result, Ok, Err}
+use Rattle.std.proofs.lemmas.List.{get_or-map}
+use Rattle.trellis.specs.declared.Code.{Code}
+use Rattle.trellis.specs.declared.Code.TheVariants.{K5, K7, En300744}
+use Rattle.trellis.specs.declared.Rate.{Rate}
+use Rattle.trellis.specs.declared.Rate.TheVariants.{R1_2, R2_3, R3_4, R5_6, R7_8}
+use Rattle.trellis.specs.declared.UnknownCode.{UnknownCode}
+use Rattle.trellis.specs.declared.UnknownRate.{UnknownRate}
 use Rattle.trellis.specs.declared.ConvCode.{ConvCode}
 use Rattle.trellis.specs.declared.KeepPattern.{KeepPattern}
-use Rattle.trellis.specs.declared.Selected.{Selected}
 use Rattle.trellis.specs.Keep.{Keep, Pattern, period, ones_of, coded_length}
-use Rattle.trellis.specs.Choice.{k5, k7, half, rust, Coding, codings, codes, coding_of, code_of, pattern_in, pattern_of, rates_of}
+use Rattle.trellis.specs.Choice.{k5, k7, half, rust, standard, Coding, codings, codes, coding_of, code_of, pattern_in, pattern_of, rates_of}
 use Rattle.trellis.specs.Choice.{held_of, keep_of}
-use Rattle.trellis.specs.Inner.{Narrow, Ends, Rows, Chooses}
+use Rattle.trellis.specs.Numbers.{code_number, rate_number, NamesCode, NamesRate}
+use Rattle.trellis.specs.Inner.{Narrow, Ends, Rows}
 use Rattle.trellis.proofs.Columns.{rows_pattern}
 
 -- ---- a test that every entry of a list passes
@@ -174,30 +183,43 @@ rate_pattern code rate =
     let is = rate_represented code rate in
     subst Pattern is.back (rows_pattern (held_of (pattern_of code rate)) is.rows)
 
--- ---- what the arms select
+-- ---- what the numbers select
 
--- a rate number's arm has the keep pattern of the number, and the last arm that of 1/2
-pub rate_held : (patterns : List Keep) {rate k : ℕ} → rate ≡ k → held_of (pattern_in patterns k) ≡ held_of (pattern_in patterns rate)
-rate_held patterns e = sym (ap (λ (n : ℕ). held_of (pattern_in patterns n)) e)
-
-pub no_rate_held : (patterns : List Keep) (rate : ℕ) → length patterns ≤ rate → held_of half ≡ held_of (pattern_in patterns rate)
+-- the keep patterns of a code as the code holds them: that of a rate number
+pub held_at :
+    (patterns : List Keep) (d : KeepPattern) {n k : ℕ} → n ≡ k → k < length patterns →
+    get_or (map held_of patterns) n d ≡ held_of (pattern_in patterns k)
 unfolding pattern_in
-no_rate_held patterns rate h = sym (ap held_of (get_or-eq_default patterns half h))
+held_at patterns d {k = k} e h = rw e (get_or-map held_of patterns k half d h)
 
--- an arm's code and keep pattern are the entry's
-abbrev selected : ConvCode → KeepPattern → Selected
-selected code keep = record { code = code; keep = keep }
+pub rate_number_few : (rate : Rate) → rate_number rate < length rust
+rate_number_few R1_2 = lit< tt
+rate_number_few R2_3 = lit< tt
+rate_number_few R3_4 = lit< tt
+rate_number_few R5_6 = lit< tt
+rate_number_few R7_8 = lit< tt
 
-pub entry_chosen :
-    {coding : Coding} (code rate : ℕ) {keep : KeepPattern} → coding ≡ coding_of code →
-    keep ≡ held_of (pattern_in coding.patterns rate) → Chooses code rate (selected coding.code keep)
-unfolding code_of pattern_of
-entry_chosen code rate e f =
-    record { taps = ap (λ (c : Coding). c.code) e; rows = f ∙ ap (λ (c : Coding). held_of (pattern_in c.patterns rate)) e }
-
-pub coding_beyond : (code : ℕ) → codes ≤ code → record { code = k5; patterns = rust } ≡ coding_of code
+-- what names no code selects K5
+pub code_named :
+    (number : ℕ) (r : Result Code UnknownCode) → NamesCode number r →
+    coding_of (code_number (result_unwrap_or r K5)) ≡ coding_of number
 unfolding coding_of
-coding_beyond code h = sym (get_or-eq_default codings _ h)
+code_named number (Ok code) e = ap coding_of e.numbered
+code_named number (Err x) e = sym (get_or-eq_default codings _ (ltb-false number codes e.unknown))
+
+-- what names no rate selects 1/2
+no_rate : (patterns : List Keep) (rate : ℕ) → ltb rate (length patterns) ≡ false → half ≡ pattern_in patterns rate
+unfolding pattern_in
+no_rate patterns rate e = sym (get_or-eq_default patterns half (ltb-false rate _ e))
+
+pub rate_named :
+    (number : ℕ) (r : Result Rate UnknownRate) → NamesRate number r → (code : Code) →
+    pattern_of (code_number code) (rate_number (result_unwrap_or r R1_2)) ≡ pattern_of (code_number code) number
+unfolding pattern_of coding_of pattern_in rates_of
+rate_named number (Ok rate) e code = ap (pattern_of (code_number code)) e.numbered
+rate_named number (Err x) e K5 = no_rate rust number (e.unknown 0)
+rate_named number (Err x) e K7 = no_rate rust number (e.unknown 1)
+rate_named number (Err x) e En300744 = no_rate standard number (e.unknown 2)
 
 -- at rate 1/2 both bits of each step are sent
 pub half_length : (t : ℕ) → coded_length half t ≡ 2 * t

@@ -1,17 +1,20 @@
 -- A keep pattern as the code holds it: what it keeps and how much, read off its rows. Assumes nothing.
+use mathlib.Core.Bool.{Bool, true, false, cond}
 use mathlib.Core.List.{List}
 use mathlib.Core.Path.{◌≡◌, refl, sym, ap, ap₂, ◌∙◌}
-use Prim.Native.Nat.{ℕ, ◌+◌, ◌*◌, ◌/◌, ◌%◌, ◌^◌, ◌≤◌, ◌<◌}
-use native.Mathlib.Nat.{le_trans, le_of_lt, mul-le-mul, div-le_self, mod-lt, mod-add-mod}
+use Prim.Native.Nat.{ℕ, ◌+◌, ◌*◌, ◌/◌, ◌%◌, ◌≤◌, ◌<◌}
+use native.Mathlib.Nat.{zero-add, mod-lt, mod-add-mod}
 use native.Mathlib.Omega.{arith}
 use lib.Dec.{eqb}
 use lib.ListN.{length, get_or, take}
 use lib.Seq.{length-take-le, take-take, get_or-take}
+use Rattle.std.specs.List.{count_by}
+use Rattle.std.proofs.lemmas.List.Recursion.{is_count_by}
+use Rattle.std.proofs.lemmas.List.Sums.{count_by-le-length}
 use Rattle.trellis.specs.declared.KeepPattern.{KeepPattern}
 use Rattle.trellis.specs.Choice.{keep_of}
 use Rattle.trellis.specs.Keep.{Pattern, keeps_by, keeps0, keeps1, ones_of, coded_length}
-use Rattle.trellis.specs.Inner.{Rows, OnesIn, Measurable}
-use Rattle.trellis.proofs.Kept.{ones-more, ones-same}
+use Rattle.trellis.specs.Inner.{Rows, OnesIn, OnesOfColumns}
 
 -- what a row keeps, from its first n columns
 keeps_front : (row : List ℕ) (n t : ℕ) → 0 < n → n ≤ length row → keeps_by (take n row) t ≡ eqb (get_or row (t % n) 0) 1
@@ -57,55 +60,22 @@ column_next n t column next e f = f ∙ ap (λ (k : ℕ). (k + 1) % n) e ∙ mod
 
 -- ---- counting the ones of a row
 
--- the invariant: the count is that of the columns passed
-pub record Counting (row : List ℕ) (n count i : ℕ) : Type 0 where
-  pub turns : i ≤ n
-  pub ones : OnesIn row i count
+one_more : (b : Bool) (n : ℕ) → cond b 1 0 + n ≡ cond b (1 + n) n
+one_more true n = refl
+one_more false n = zero-add n
 
-pub counting_starts : {row : List ℕ} {n : ℕ} → Counting row n 0 0
+ones-count : (row : List ℕ) → ones_of row ≡ count_by (λ (x : ℕ). eqb x 1) row
 unfolding ones_of
-counting_starts = record { turns = omega arith; ones = record { counted = refl; few = omega arith } }
+ones-count row = is_count_by ones_of (λ (x : ℕ). eqb x 1) refl (λ x xs. one_more (eqb x 1) (ones_of xs)) row
 
-module _ {row : List ℕ} {n count i : ℕ} (so_far : Counting row n count i) where
-  pub counting_more : {next : ℕ} → i < n → get_or row i 0 ≡ 1 → next ≡ count + 1 → Counting row n next (i + 1)
-  counting_more h is e =
-      let ones = so_far.ones in
-      record {
-        turns = omega (arith, h);
-        ones = record { counted = omega (arith, ones-more row i is, ones.counted); few = omega (arith, ones.few) };
-      }
-
-  pub counting_same : {next : ℕ} → i < n → (get_or row i 0 ≡ 1 → ⊥) → next ≡ count → Counting row n next (i + 1)
-  counting_same h other e =
-      let ones = so_far.ones in
-      record {
-        turns = omega (arith, h);
-        ones = record { counted = omega (arith, ones-same row i other, ones.counted); few = omega (arith, ones.few) };
-      }
-
-  pub counting_ends : n ≤ i → OnesIn row n count
-  counting_ends h =
-      let last : i ≡ n = omega (arith, so_far.turns, h) in
-      rw last at so_far.ones
+pub ones_counted : (row : List ℕ) {r : ℕ} → r ≡ count_by (λ (x : ℕ). eqb x 1) row → OnesIn row r
+ones_counted row e =
+    record { counted = e ∙ sym (ones-count row); few = omega (arith, e, count_by-le-length (λ (x : ℕ). eqb x 1) row) }
 
 -- ---- the coded length, term by term
 
-module _ {keep : KeepPattern} {steps : ℕ} (is : Measurable keep steps) where
-  -- the columns begun are fewer than seven
-  pub begun_few : steps % keep.period ≤ 7
-  begun_few = omega (arith, mod-lt steps is.rows.some, is.rows.seven)
-
-  -- no more whole periods than steps, and at most seven ones to a row
-  pub whole_few :
-      {a b : ℕ} → OnesIn keep.row0 keep.period a → OnesIn keep.row1 keep.period b →
-      steps / keep.period * (a + b) ≤ 2 ^ 32 * 14
-  whole_few {a} {b} upper lower =
-      mul-le-mul {m₂ = 14} (le_trans (div-le_self steps keep.period) (le_of_lt is.few))
-      (omega (arith, upper.few, lower.few, is.rows.seven))
-
-  pub coded_terms :
-      {a b x y : ℕ} → OnesIn keep.row0 keep.period a → OnesIn keep.row1 keep.period b →
-      OnesIn keep.row0 (steps % keep.period) x → OnesIn keep.row1 (steps % keep.period) y →
-      steps / keep.period * (a + b) + (x + y) ≡ coded_length (keep_of keep) steps
-  coded_terms upper lower begun0 begun1 =
-      rw (upper.counted, lower.counted, begun0.counted, begun1.counted) (sym (coded_columns keep is.rows steps))
+pub coded_terms :
+    {keep : KeepPattern} (steps : ℕ) {a b : ℕ} → Rows keep →
+    OnesOfColumns keep keep.period a → OnesOfColumns keep (steps % keep.period) b →
+    steps / keep.period * a + b ≡ coded_length (keep_of keep) steps
+coded_terms {keep} steps rows whole begun = rw (whole.counted, begun.counted) (sym (coded_columns keep rows steps))

@@ -6,9 +6,7 @@ use mathlib.Core.Path.{◌≡◌, refl, sym, ap, ap₂, subst, ◌∙◌}
 use Prim.Native.Nat.{ℕ, zero, suc, ◌+◌, ◌*◌, ◌/◌, ◌%◌, ◌≤◌, ◌<◌}
 use native.Mathlib.Nat.{le_refl, mul-add, suc-mul, mod-lt, div-add-mod', eq-or-lt_of_le}
 use native.Mathlib.Decide.{le_ind}
-use native.Mathlib.Numerals.{add-one}
 use native.Mathlib.Omega.{arith}
-use borrow.Author.Tests.{eq-eqb, ne_eqb}
 use lib.Arith.{digits_div, digits_mod}
 use lib.Dec.{eqb}
 use lib.ListN.{length, get_or, take, length-append}
@@ -36,13 +34,6 @@ unfolding ones_of
 ones-take_suc [] j = rw (take-nil j)
 ones-take_suc (x ∷ row) zero = omega arith
 ones-take_suc (x ∷ row) (suc j) = omega (arith, ones-take_suc row j)
-
--- the same for a loop that goes through the columns
-pub ones-more : (row : List ℕ) (j : ℕ) → get_or row j 0 ≡ 1 → ones_of (take (j + 1) row) ≡ ones_of (take j row) + 1
-ones-more row j h = rw (add-one j, ones-take_suc row j, eq-eqb _ _ h)
-
-pub ones-same : (row : List ℕ) (j : ℕ) → (get_or row j 0 ≡ 1 → ⊥) → ones_of (take (j + 1) row) ≡ ones_of (take j row)
-ones-same row j h = rw (add-one j, ones-take_suc row j, ne_eqb _ _ h) (omega arith)
 
 module _ (row : List ℕ) (some : 0 < length row) where
   abbrev n : ℕ

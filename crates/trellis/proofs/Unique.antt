@@ -1,19 +1,29 @@
 -- Of each function, any two outcomes that its contract allows are equal. `Post` is the contract: of what the call is given,
 -- what it returns, and what it leaves in each argument. Assumes nothing.
-use mathlib.Core.List.{List}
-use mathlib.Core.Path.{◌≡◌, ap₂, sym, ◌∙◌}
+use mathlib.Core.List.{List, [], ◌∷◌}
+use mathlib.Core.Path.{◌≡◌, refl, ap, ap₂, sym, ◌∙◌}
 use Prim.Native.Nat.{ℕ, ◌<◌}
 use native.Mathlib.Decide.{dec_lt}
 use native.Mathlib.Omega.{arith}
 use lib.ListN.{length, get_or}
 use lib.Seq.{ext_get_or}
+use Rattle.std.specs.Prelude.{Result, Ok, Err}
+use Rattle.trellis.specs.declared.Code.{Code}
+use Rattle.trellis.specs.declared.Code.TheVariants.{K5, K7, En300744}
+use Rattle.trellis.specs.declared.Rate.{Rate}
+use Rattle.trellis.specs.declared.Rate.TheVariants.{R1_2, R2_3, R3_4, R5_6, R7_8}
+use Rattle.trellis.specs.declared.UnknownCode.{UnknownCode}
+use Rattle.trellis.specs.declared.UnknownRate.{UnknownRate}
 use Rattle.trellis.specs.declared.ConvCode.{ConvCode}
 use Rattle.trellis.specs.declared.KeepPattern.{KeepPattern}
 use Rattle.trellis.specs.declared.Pair.{Pair}
 use Rattle.trellis.specs.declared.Planes.{Planes}
 use Rattle.trellis.specs.declared.Selected.{Selected}
+use Rattle.trellis.specs.Numbers.{code_number, rate_number, NamesCode, NamesRate}
 use Rattle.trellis.specs.Inner.{Blank}
 use Rattle.trellis.proofs.Even.{Filled}
+use Rattle.trellis.proofs.CodeTryFromU8.try_from.Reads as code_try_from
+use Rattle.trellis.proofs.RateTryFromU8.try_from.Reads as rate_try_from
 use Rattle.trellis.proofs.conv_code.Reads as conv_code
 use Rattle.trellis.proofs.choose.Reads as choose
 use Rattle.trellis.proofs.branch_bits.Reads as branch_bits
@@ -21,6 +31,45 @@ use Rattle.trellis.proofs.sent_by_even.Reads as sent_by_even
 use Rattle.trellis.proofs.next_state.Reads as next_state
 use Rattle.trellis.proofs.next_column.Reads as next_column
 use Rattle.trellis.proofs.coded_len.Reads as coded_len
+
+-- no two codes have one number, and no two rates
+code_back : (code : Code) → get_or (K5 ∷ K7 ∷ En300744 ∷ []) (code_number code) K5 ≡ code
+code_back K5 = refl
+code_back K7 = refl
+code_back En300744 = refl
+
+rate_back : (rate : Rate) → get_or (R1_2 ∷ R2_3 ∷ R3_4 ∷ R5_6 ∷ R7_8 ∷ []) (rate_number rate) R1_2 ≡ rate
+rate_back R1_2 = refl
+rate_back R2_3 = refl
+rate_back R3_4 = refl
+rate_back R5_6 = refl
+rate_back R7_8 = refl
+
+code_once : (number : ℕ) (r r' : Result Code UnknownCode) → NamesCode number r → NamesCode number r' → r ≡ r'
+code_once number (Ok a) (Ok b) p q =
+    let at = ap (λ (n : ℕ). get_or (K5 ∷ K7 ∷ En300744 ∷ []) n K5) (p.numbered ∙ sym q.numbered) in
+    ap (λ (code : Code). Ok code) (sym (code_back a) ∙ at ∙ code_back b)
+code_once number (Ok a) (Err y) p q = cc (p.known, q.unknown)
+code_once number (Err x) (Ok b) p q = cc (p.unknown, q.known)
+code_once number (Err x) (Err y) p q = ap (λ (n : ℕ). Err (record { number = n })) (p.named ∙ sym q.named)
+
+rate_once : (number : ℕ) (r r' : Result Rate UnknownRate) → NamesRate number r → NamesRate number r' → r ≡ r'
+rate_once number (Ok a) (Ok b) p q =
+    let at = ap (λ (n : ℕ). get_or (R1_2 ∷ R2_3 ∷ R3_4 ∷ R5_6 ∷ R7_8 ∷ []) n R1_2) (p.numbered ∙ sym q.numbered) in
+    ap (λ (rate : Rate). Ok rate) (sym (rate_back a) ∙ at ∙ rate_back b)
+rate_once number (Ok a) (Err y) p q = cc (p.known 0, q.unknown 0)
+rate_once number (Err x) (Ok b) p q = cc (p.unknown 0, q.known 0)
+rate_once number (Err x) (Err y) p q = ap (λ (n : ℕ). Err (record { number = n })) (p.named ∙ sym q.named)
+
+pub code_try_from-determined :
+    (κs : _) (given : _) (r r' : Result Code UnknownCode) (left left' : _) →
+    code_try_from.Post κs given r left → code_try_from.Post κs given r' left' → r ≡ r'
+code_try_from-determined κs given r r' left left' p q = code_once _ r r' p q
+
+pub rate_try_from-determined :
+    (κs : _) (given : _) (r r' : Result Rate UnknownRate) (left left' : _) →
+    rate_try_from.Post κs given r left → rate_try_from.Post κs given r' left' → r ≡ r'
+rate_try_from-determined κs given r r' left left' p q = rate_once _ r r' p q
 
 abbrev made : ℕ → ℕ → Pair
 made c0 c1 = record { c0 = c0; c1 = c1 }

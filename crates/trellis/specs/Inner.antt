@@ -1,5 +1,5 @@
 -- What the functions ask and ensure. Definitions only.
-use Rattle.std.specs.Prelude.{List, ◌≡◌, ℕ, ◌-◌, ◌*◌, ◌%◌, ◌^◌, ◌≤◌, ◌<◌, length, get_or, take}
+use Rattle.std.specs.Prelude.{List, ◌≡◌, ℕ, ◌+◌, ◌-◌, ◌*◌, ◌%◌, ◌^◌, ◌≤◌, ◌<◌, length, get_or, take}
 use Rattle.trellis.specs.declared.Selected.{Selected}
 use Rattle.trellis.specs.declared.ConvCode.{ConvCode}
 use Rattle.trellis.specs.declared.KeepPattern.{KeepPattern}
@@ -74,10 +74,20 @@ pub record Rows (m : KeepPattern) : Type 0 where
   pub room0 : m.period ≤ length m.row0
   pub room1 : m.period ≤ length m.row1
 
--- `ones_in`: the ones in the first n columns of a row
-pub record OnesIn (row : List ℕ) (n r : ℕ) : Type 0 where
-  pub counted : r ≡ ones_of (take n row)
-  pub few : r ≤ n
+-- `ones_in`: the ones of a row
+pub record OnesIn (row : List ℕ) (r : ℕ) : Type 0 where
+  pub counted : r ≡ ones_of row
+  pub few : r ≤ length row
+
+-- some of the columns that count
+pub record Columns (m : KeepPattern) (n : ℕ) : Type 0 where
+  pub rows : Rows m
+  pub within : n ≤ m.period
+
+-- `KeepPattern::ones`: the ones in the first n columns of both rows
+pub record OnesOfColumns (m : KeepPattern) (n r : ℕ) : Type 0 where
+  pub counted : r ≡ ones_of (take n m.row0) + ones_of (take n m.row1)
+  pub few : r ≤ 2 * n
 
 -- `coded_len`: such a keep pattern, and steps within 32 bits
 pub record Measurable (keep : KeepPattern) (steps : ℕ) : Type 0 where

@@ -6,6 +6,7 @@ pub mod Keep
 pub mod Places
 pub mod Codeword
 pub mod Choice
+pub mod Numbers
 pub mod Standard
 pub mod State
 pub mod Inner

@@ -1,12 +1,13 @@
 // One step of the shift register for any code, which coded bits a keep pattern keeps, and the coded length.
 #![tactic(auto)]
 
-ghost use Rattle.std.specs.Prelude.{◌≡◌, ◌+◌, ◌%◌, ◌<◌, ◌≤◌};
-ghost use Rattle.trellis.specs.Choice.{pattern_in, code_of, held_of, keep_of};
-ghost use Rattle.trellis.specs.Choice as choice;
+ghost use Rattle.std.specs.Prelude.{ℕ, ◌≡◌, ◌+◌, ◌%◌, ◌<◌, ◌≤◌};
+ghost use Rattle.trellis.specs.declared.Code.{Code};
+ghost use Rattle.trellis.specs.Choice.{coding_of, code_of, pattern_of, held_of, keep_of};
 ghost use Rattle.trellis.specs.Keep.{coded_length};
+ghost use Rattle.trellis.specs.Numbers.{code_number, rate_number, NamesCode, NamesRate};
 ghost use Rattle.trellis.specs.State.{window, parity_of, next_state};
-ghost use Rattle.trellis.specs.Inner.{Chooses, Branch, Branched, Halved, SendsEven, OnesIn, Measurable};
+ghost use Rattle.trellis.specs.Inner.{Chooses, Branch, Branched, Halved, SendsEven, OnesIn, Columns, OnesOfColumns, Measurable};
 
 // A code: the register's width K - 1, and the tap words over the window of K bits, whose top bit
 // is the input.
@@ -15,6 +16,69 @@ pub struct ConvCode {
     pub width: usize,
     pub g0: u32,
     pub g1: u32,
+}
+
+// The codes by name: QPSK31's, the inner code of DVB-T with the Rust's keep patterns, and with those of EN 300 744.
+#[derive(Clone, Copy, PartialEq, Eq, Debug)]
+pub enum Code {
+    K5,
+    K7,
+    En300744,
+}
+
+// The rates that each code has.
+#[derive(Clone, Copy, PartialEq, Eq, Debug)]
+pub enum Rate {
+    R1_2,
+    R2_3,
+    R3_4,
+    R5_6,
+    R7_8,
+}
+
+// A number that names no code.
+#[derive(Clone, Copy, PartialEq, Eq, Debug)]
+pub struct UnknownCode {
+    pub number: u8,
+}
+
+// A number that names no rate.
+#[derive(Clone, Copy, PartialEq, Eq, Debug)]
+pub struct UnknownRate {
+    pub number: u8,
+}
+
+impl TryFrom<u8> for Code {
+    type Error = UnknownCode;
+
+    ghost try_from_gives = { NamesCode };
+
+    fn try_from(number: u8) -> Result<Self, UnknownCode> {
+        match number {
+            0 => Ok(Code::K5),
+            1 => Ok(Code::K7),
+            2 => Ok(Code::En300744),
+            _ => Err(UnknownCode { number }),
+        }
+    }
+}
+
+impl TryFrom<u8> for Rate {
+    type Error = UnknownRate;
+
+    ghost try_from_gives = { NamesRate };
+
+    #[tactic(auto, using(crate::proofs::Chosen::rates_same))]
+    fn try_from(number: u8) -> Result<Self, UnknownRate> {
+        match number {
+            0 => Ok(Rate::R1_2),
+            1 => Ok(Rate::R2_3),
+            2 => Ok(Rate::R3_4),
+            3 => Ok(Rate::R5_6),
+            4 => Ok(Rate::R7_8),
+            _ => Err(UnknownRate { number }),
+        }
+    }
 }
 
 // How many codes and rates there are. Their numbers count from 0.
@@ -106,31 +170,52 @@ const STANDARD_7_8: KeepPattern = KeepPattern {
     row1: [1, 1, 1, 1, 0, 1, 0],
 };
 
-// The keep patterns of the Rust, that of 1/2 where the number is no rate's.
-fn rust(rate: u8) -> KeepPattern
-    ensures { result ≡ held_of (pattern_in choice.rust rate) }
-{
-    match rate {
-        0 => HALF,
-        1 => RUST_2_3,
-        2 => RUST_3_4,
-        3 => RUST_5_6,
-        4 => RUST_7_8,
-        _ => HALF,
+// The keep patterns of the Rust, by the rates. A static: of a const the compiler lays out all five at each call.
+static RUST: [KeepPattern; 5] = [HALF, RUST_2_3, RUST_3_4, RUST_5_6, RUST_7_8];
+
+// Those of EN 300 744.
+static STANDARD: [KeepPattern; 5] = [HALF, STANDARD_2_3, STANDARD_3_4, STANDARD_5_6, STANDARD_7_8];
+
+impl Code {
+    // The code of a number, K5 where the number is no code's.
+    fn of(number: u8) -> Self
+        ensures { coding_of (code_number result) ≡ coding_of number }
+    {
+        Code::try_from(number).unwrap_or(Code::K5)
+    }
+
+    fn tap_words(self) -> ConvCode
+        ensures { result ≡ code_of (code_number self) }
+    {
+        match self {
+            Code::K5 => K5,
+            Code::K7 | Code::En300744 => K7,
+        }
+    }
+
+    fn keep(self, rate: Rate) -> KeepPattern
+        ensures { result ≡ held_of (pattern_of (code_number self) (rate_number rate)) }
+    {
+        match self {
+            Code::K5 | Code::K7 => RUST[rate.number()],
+            Code::En300744 => STANDARD[rate.number()],
+        }
     }
 }
 
-// The keep patterns of EN 300 744, likewise.
-fn standard(rate: u8) -> KeepPattern
-    ensures { result ≡ held_of (pattern_in choice.standard rate) }
-{
-    match rate {
-        0 => HALF,
-        1 => STANDARD_2_3,
-        2 => STANDARD_3_4,
-        3 => STANDARD_5_6,
-        4 => STANDARD_7_8,
-        _ => HALF,
+impl Rate {
+    // The rate of a number, 1/2 where the number is no rate's.
+    fn of(number: u8) -> Self
+        ensures { (code : Code) → pattern_of (code_number code) (rate_number result)
+            ≡ pattern_of (code_number code) number }
+    {
+        Rate::try_from(number).unwrap_or(Rate::R1_2)
+    }
+
+    fn number(self) -> usize
+        ensures { result ≡ rate_number self }
+    {
+        self as usize
     }
 }
 
@@ -141,27 +226,14 @@ pub struct Selected {
     pub keep: KeepPattern,
 }
 
-// One arm for each code number, K5's where the number is no code's.
+// Where a number is no code's it selects K5, and where it is no rate's, 1/2.
 pub fn choose(code: u8, rate: u8) -> Selected
     ensures { Chooses code rate result }
 {
-    match code {
-        0 => Selected {
-            code: K5,
-            keep: rust(rate),
-        },
-        1 => Selected {
-            code: K7,
-            keep: rust(rate),
-        },
-        2 => Selected {
-            code: K7,
-            keep: standard(rate),
-        },
-        _ => Selected {
-            code: K5,
-            keep: rust(rate),
-        },
+    let chosen = Code::of(code);
+    Selected {
+        code: chosen.tap_words(),
+        keep: chosen.keep(Rate::of(rate)),
     }
 }
 
@@ -169,14 +241,13 @@ pub fn choose(code: u8, rate: u8) -> Selected
 pub fn conv_code(code: u8) -> ConvCode
     ensures { result ≡ code_of code }
 {
-    let chosen = choose(code, 0);
-    chosen.code
+    Code::of(code).tap_words()
 }
 
 fn parity(w: u32, taps: u32) -> u8
     ensures { result ≡ parity_of taps w }
 {
-    (u32::count_ones(w & taps) % 2) as u8
+    ((w & taps).count_ones() % 2) as u8
 }
 
 // The input bit above the register.
@@ -248,18 +319,20 @@ pub fn next_column(column: usize, period: usize) -> usize
     if next == period { 0 } else { next }
 }
 
-// The ones in the first n columns of a row.
-fn ones_in(row: &[u8; 7], n: usize) -> usize
-    requires { n ≤ 7 }
-    ensures { OnesIn row.now n result }
+fn ones_in(row: &[u8]) -> usize
+    ensures { OnesIn row.now result }
 {
-    let mut count = 0;
-    for i in 0..n {
-        if row[i] == 1 {
-            count += 1;
-        }
+    row.iter().filter(|x| **x == 1).count()
+}
+
+impl KeepPattern {
+    // The ones in the first n columns of both rows.
+    fn ones(&self, n: usize) -> usize
+        requires { Columns self.now n }
+        ensures { OnesOfColumns self.now n result }
+    {
+        ones_in(&self.row0[..n]) + ones_in(&self.row1[..n])
     }
-    count
 }
 
 // Whole periods times the ones in both rows, plus the ones in the columns begun.
@@ -267,10 +340,5 @@ pub fn coded_len(keep: KeepPattern, steps: usize) -> usize
     requires { Measurable keep steps }
     ensures { result ≡ coded_length (keep_of keep) steps }
 {
-    let period = keep.period;
-    let row0 = keep.row0;
-    let row1 = keep.row1;
-    let begun = steps % period;
-    let all = ones_in(&row0, period) + ones_in(&row1, period);
-    steps / period * all + (ones_in(&row0, begun) + ones_in(&row1, begun))
+    steps / keep.period * keep.ones(keep.period) + keep.ones(steps % keep.period)
 }

@@ -5,7 +5,7 @@ use Rattle.bench_calls.proofs.Streamed.{stream_refused}
 use Rattle.bench_calls.proofs.stream.Goals as goal
 
 pub returns-then-out-count : goal.returns-then-out-count
-returns-then-out-count c = stream_refused _ c.no_count.result c.no_count.ensures (omega arith)
+returns-then-out-count c = stream_refused _ (omega arith)
 
 pub loop-i-init : goal.loop-i-init
 loop-i-init c = streaming_starts c.new-d.ensures (omega arith)

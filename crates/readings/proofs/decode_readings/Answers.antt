@@ -4,44 +4,39 @@ use native.Mathlib.Omega.{arith}
 use Rattle.correlation.proofs.Answers.{not_prepared, bad_reading_lem, good_readings, finds_decodes}
 use Rattle.correlation.proofs.Checks.{call_decodable}
 use Rattle.correlation.proofs.Selected.{finds_selected}
-use Rattle.correlation.proofs.Used.{used_within}
+use Rattle.correlation.proofs.Used.{used_within, bad_few}
 use Rattle.refusal.specs.Answer.{accepted}
+use Rattle.refusal.proofs.Told.{handed_on}
 use Rattle.refusal.proofs.Over.{both_refused}
 use Rattle.readings.proofs.Used.{used_finite}
 use Rattle.readings.proofs.decode_readings.Goals as goal
 
-pub returns-then-ready-ne0 : goal.returns-then-ready-ne0
-returns-then-ready-ne0 c =
-    let ready = rw c.requires at c.prepare-ready.ensures in
-    both_refused (not_prepared _ _ _ _ _ _ _ _ _ ready c.if-ready-ne0.true) c.no_word.ensures refl refl
+pub returns-in_err-ready : goal.returns-in_err-ready
+returns-in_err-ready c =
+    let is = rw c.requires at c.in_err-ready.ensures in
+    rw (handed_on c.from_residual.result _ c.from_residual.ensures.1)
+    (both_refused (not_prepared _ _ _ _ _ _ _ _ _ is) refl refl refl)
 
-pub first_bad-bad-requires : goal.first_bad-bad-requires
-first_bad-bad-requires c =
-    omega (arith, c.requires, used_within (c.prepare-ready.ensures.used c.if-ready-ne0.false))
+pub first_bad-requires : goal.first_bad-requires
+first_bad-requires c = omega (arith, c.requires, used_within c.in_ok-ready.ensures.ready.used)
 
-pub overflow_cast-bad : goal.overflow_cast-bad
-overflow_cast-bad c =
-    omega (arith, (c.prepare-ready.ensures.used c.if-ready-ne0.false).few)
+pub overflow_cast-result : goal.overflow_cast-result
+overflow_cast-result c =
+    let is = rw c.requires at c.in_ok-ready.ensures in
+    omega (arith, bad_few _ _ _ is.ready.used _ c.in-Some.ensures)
 
-pub returns-then-bad-ready : goal.returns-then-bad-ready
-returns-then-bad-ready c =
-    let ready = rw c.requires at c.prepare-ready.ensures in
-    both_refused
-    (bad_reading_lem _ _ _ _ _ _ _ _ _ ready c.if-ready-ne0.false c.first_bad-bad.ensures c.if-bad-ready.true)
-    c.no_word-then-bad-ready.ensures (search) (search)
+pub returns-in-Some : goal.returns-in-Some
+returns-in-Some c =
+    let is = rw c.requires at c.in_ok-ready.ensures in
+    both_refused (bad_reading_lem _ _ _ _ _ _ _ _ _ is c.in-Some.ensures) refl (search) (search)
 
 pub decode-score-requires : goal.decode-score-requires
 decode-score-requires c =
-    let ready = rw c.requires at c.prepare-ready.ensures in
-    record {
-      shaped = call_decodable ready c.if-ready-ne0.false refl refl;
-      used = used_finite _ ready c.if-ready-ne0.false c.first_bad-bad.ensures (omega arith);
-    }
+    let is = rw c.requires at c.in_ok-ready.ensures in
+    record { shaped = call_decodable is refl refl; used = used_finite _ is c.in-None.ensures }
 
-pub returns : goal.returns
-returns c =
-    let ready = rw c.requires at c.prepare-ready.ensures in
-    let found = finds_selected ready.chosen ready.halved c.decode-score.ensures in
-    finds_decodes _ _ _ _ _
-    (good_readings _ _ _ _ _ _ _ _ _ ready c.if-ready-ne0.false c.first_bad-bad.ensures (omega arith))
-    (ap accepted found.scored) found
+pub returns-in-None : goal.returns-in-None
+returns-in-None c =
+    let is = rw c.requires at c.in_ok-ready.ensures in
+    let found = finds_selected is.ready.chosen is.ready.halved c.decode-score.ensures in
+    finds_decodes _ _ _ _ _ (good_readings _ _ _ _ _ _ _ _ _ is c.in-None.ensures) (ap accepted found.scored) found

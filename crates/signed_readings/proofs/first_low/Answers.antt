@@ -15,4 +15,4 @@ loop-i-preserved c =
     low_sought_goes_on c.loop-i.invariant (omega arith) (search) (search)
 
 pub returns : goal.returns
-returns c = none_low c.loop-i.invariant (omega arith) c.loop-i.invariant.sought.reached
+returns c = none_low c.loop-i.invariant (omega arith)
