@@ -5,9 +5,8 @@ ghost use Rattle.std.specs.Prelude.{[], ◌≡◌, ◌+◌, ◌≤◌, length, r
 ghost use Rattle.refusal.specs.Answer.{accepted};
 ghost use Rattle.line.specs.Line.{most_bytes, most_info, shaped};
 ghost use Rattle.line.specs.Promise.{AnswersInput};
-ghost use Rattle.line.specs.Inner.{refusal_said, RefusalIn, PrintsAnswer};
+ghost use Rattle.line.specs.Inner.{refusal_said, PrintsAnswer, DecodesInput};
 
-use f32_answers::Decoded;
 use refusal::Refusal;
 use text::Line;
 
@@ -39,26 +38,7 @@ pub fn room() -> [u8; ROOM]
 fn is_shaped(n: usize) -> bool
     ensures { result ≡ shaped n }
 {
-    if n < 4 {
-        return false;
-    }
-    if MOST_BYTES < n {
-        return false;
-    }
-    n % 4 == 0
-}
-
-// The refusal in an answer that is not a word.
-fn refusal_in(answer: Decoded) -> Refusal
-    ensures { RefusalIn answer result }
-{
-    match answer {
-        Decoded::Word(_) => Refusal {
-            number: 0,
-            place: 0,
-        },
-        Decoded::Refused(r) => r,
-    }
+    4 <= n && n <= MOST_BYTES && n % 4 == 0
 }
 
 fn refused_line(r: Refusal) -> Answer
@@ -66,9 +46,9 @@ fn refused_line(r: Refusal) -> Answer
 {
     let mut line = Line::new();
     line.put(b"refused ");
-    line.put_decimal(r.number as u32);
+    line.put_decimal(u32::from(r.number()));
     line.put(b" at ");
-    line.put_decimal(r.place);
+    line.put_decimal(r.place());
     line.put(b"\n");
     line
 }
@@ -86,33 +66,34 @@ fn word_line(word: &[u8], score: f32) -> Answer
     line
 }
 
-// The whole output for an input.
-pub fn answer(input: &[u8]) -> Answer
-    ensures { AnswersInput input.now result }
+// The line of the word and the score that an input's readings decode to.
+fn decoded_line(input: &[u8]) -> Result<Answer, Refusal>
+    ensures { DecodesInput input.now result }
 {
     if !is_shaped(input.len()) {
-        return refused_line(Refusal {
-            number: refusal::BAD_INPUT,
-            place: 0,
-        });
+        return Err(Refusal::BadInput);
     }
-    let info = (input[2] as usize) + 256 * (input[3] as usize);
-    let number = encoder::refused_choice(input[0], input[1], info, MOST_INFO);
-    if number != 0 {
-        return refused_line(Refusal { number, place: 0 });
-    }
+    let info = usize::from(u16::from_le_bytes([input[2], input[3]]));
+    encoder::refused_choice(input[0], input[1], info, MOST_INFO)?;
     let mut word = [0; MOST_INFO];
     let mut scratch = [0; SURVIVORS];
-    let decoded = readings::viterbi_decode_bytes(
+    let score = readings::viterbi_decode_bytes(
         input[0],
         &input[4..],
         info,
         input[1],
         &mut word[..],
         &mut scratch[..],
-    );
-    let Decoded::Word(score) = decoded else {
-        return refused_line(refusal_in(decoded));
-    };
-    word_line(&word[..info], score)
+    )?;
+    Ok(word_line(&word[..info], score))
+}
+
+// The whole output for an input.
+pub fn answer(input: &[u8]) -> Answer
+    ensures { AnswersInput input.now result }
+{
+    match decoded_line(input) {
+        Ok(line) => line,
+        Err(r) => refused_line(r),
+    }
 }
