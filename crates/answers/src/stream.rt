@@ -2,7 +2,7 @@
 use call_lines::fields::{SHORT, byte, field, fill, fill_floats, lent, room};
 use call_lines::print::{print_answer, print_bytes, print_number};
 use call_lines::shapes::COMPONENTS;
-use refusal::{Counted, count_number};
+use refusal::{answer_number, count_number};
 use std::io;
 use std::io::Write;
 use streaming::{Emitted, StreamingViterbi};
@@ -28,7 +28,7 @@ pub fn flush<W: Write>(to: &mut W, line: &[u8]) -> io::Result<()> {
     let out = &mut out[..room(field(line, 5), SHORT)];
     let flushed = record(line).flush(out);
     print_answer(to, count_number(flushed.answer), out)?;
-    print_record(to, flushed.decoder)
+    print_record(to, flushed.coder)
 }
 
 // The record that a line's first four fields spell.
@@ -48,35 +48,30 @@ fn record(line: &[u8]) -> StreamingViterbi {
 // Feeds symbols one after the other, re and im in turn, and prints each answer.
 fn feed_all<W: Write>(
     to: &mut W,
-    d: StreamingViterbi,
+    mut decoder: StreamingViterbi,
     soft: &[f32],
 ) -> io::Result<StreamingViterbi> {
-    let mut decoder = d;
     for symbol in soft.chunks_exact(2) {
         let fed = decoder.feed_symbol(symbol[0], symbol[1]);
         print_number(to, emitted_number(fed.answer), 1)?;
-        decoder = fed.decoder;
+        decoder = fed.coder;
     }
     Ok(decoder)
 }
 
 // A bit, 2 for nothing, or a refusal as a door says it.
 fn emitted_number(answer: Emitted) -> u64 {
-    match answer {
-        Emitted::Bit(b) => b as u64,
-        Emitted::Nothing => 2,
-        Emitted::Refused(r) => count_number(Counted::Refused(r)),
-    }
+    answer_number(answer.map(|bit| bit.map_or(2, u64::from)))
 }
 
 // Prints a record: the metrics' bytes, the history, the two counters.
-fn print_record<W: Write>(to: &mut W, d: StreamingViterbi) -> io::Result<()> {
+fn print_record<W: Write>(to: &mut W, decoder: StreamingViterbi) -> io::Result<()> {
     let mut metrics = [0; 64];
-    for (bytes, metric) in metrics.chunks_exact_mut(4).zip(&d.front.pm) {
+    for (bytes, metric) in metrics.chunks_exact_mut(4).zip(&decoder.front.pm) {
         bytes.copy_from_slice(&f32s::bits_of(*metric).to_le_bytes());
     }
     print_bytes(to, &metrics)?;
-    print_bytes(to, &d.history)?;
-    print_number(to, d.front.count as u64, 2)?;
-    print_number(to, d.front.turn as u64, 2)
+    print_bytes(to, &decoder.history)?;
+    print_number(to, decoder.front.count as u64, 2)?;
+    print_number(to, decoder.front.turn as u64, 2)
 }
