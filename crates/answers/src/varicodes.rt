@@ -1,13 +1,14 @@
 // The calls of Varicode: its words, and the writer and the reader.
-use call_lines::fields::{SHORT, byte, field, fill, find, lent, number, room, start_of};
-use call_lines::print::{TEXT, print_bytes, print_number, put_number, write_front};
-use queue::{BitQueue, CharQueue, Taken};
-use refusal::{Counted, Put, count_number};
+ghost use Rattle.std.specs.Prelude.{◌<◌};
+
+use call_lines::fields::{SHORT, byte, field, fill, lent, number, room};
+use call_lines::print::{print_bytes, print_number};
+use queue::Queue;
+use refusal::{Refusal, refused_number};
 use std::io;
 use std::io::Write;
-use varicode_reader::{NextChar, Pushed, VaricodeDecoder};
-use varicode_words::Letter;
-use varicode_writer::{NextBit, VaricodeEncoder, Wrote};
+use varicode_reader::VaricodeDecoder;
+use varicode_writer::VaricodeEncoder;
 
 // `v BYTE`. Prints its word's bits and length.
 pub fn word<W: Write>(to: &mut W, line: &[u8]) -> io::Result<()> {
@@ -19,16 +20,11 @@ pub fn word<W: Write>(to: &mut W, line: &[u8]) -> io::Result<()> {
 // `d LENGTH`. Prints each value of that length that is a word, and its byte.
 pub fn lookups<W: Write>(to: &mut W, line: &[u8]) -> io::Result<()> {
     let len = byte(field(line, 1));
-    for value in 0..0x1_0000u32 {
-        lookup(to, value as u16, len)?;
-    }
-    Ok(())
-}
-
-fn lookup<W: Write>(to: &mut W, value: u16, len: u8) -> io::Result<()> {
-    if let Letter::Byte(b) = varicode_words::varicode_decode(value, len) {
-        print_number(to, value as u64, 4)?;
-        print_number(to, b as u64, 2)?;
+    for value in 0..=u16::MAX {
+        if let Some(b) = varicode_words::varicode_decode(value, len) {
+            print_number(to, value as u64, 4)?;
+            print_number(to, b as u64, 2)?;
+        }
     }
     Ok(())
 }
@@ -50,10 +46,12 @@ pub fn fresh<W: Write>(to: &mut W) -> io::Result<()> {
 // `w SLOTS HEAD COUNT FIRST STEPS`: a writer's record, and what is done with it. Prints an answer for each call,
 // and the record.
 pub fn write<W: Write>(to: &mut W, line: &[u8]) -> io::Result<()> {
-    let decoder = VaricodeDecoder::new();
     let coders = Coders {
-        encoder: writer(line),
-        decoder,
+        encoder: VaricodeEncoder {
+            pending: queue_at(line, 1),
+            first: number(field(line, 4)) == 1,
+        },
+        decoder: VaricodeDecoder::new(),
     };
     let after = steps(to, line, 5, coders)?;
     print_writer(to, after.encoder)
@@ -61,55 +59,38 @@ pub fn write<W: Write>(to: &mut W, line: &[u8]) -> io::Result<()> {
 
 // `r PAUSES SHIFT LENGTH ZERO SLOTS HEAD COUNT STEPS`: the same of a reader.
 pub fn read<W: Write>(to: &mut W, line: &[u8]) -> io::Result<()> {
-    let encoder = VaricodeEncoder::new();
     let coders = Coders {
-        encoder,
-        decoder: reader(line),
+        encoder: VaricodeEncoder::new(),
+        decoder: VaricodeDecoder {
+            pauses: number(field(line, 1)) == 1,
+            shift: (number(field(line, 2)) % 0x1_0000) as u16,
+            len: byte(field(line, 3)),
+            prev_zero: number(field(line, 4)) == 1,
+            chars: queue_at(line, 5),
+        },
     };
     let after = steps(to, line, 8, coders)?;
     print_reader(to, after.decoder)
 }
 
-// The writer's record that a line's first fields spell.
-fn writer(line: &[u8]) -> VaricodeEncoder {
-    let mut slots = [0u8; 256];
-    fill(field(line, 1), &mut slots);
-    let pending = BitQueue {
+// The queue's record that three fields of a line spell.
+fn queue_at<const ROOM: usize>(line: &[u8], place: usize) -> Queue<ROOM>
+    requires { place < 8 }
+{
+    let mut slots = [0u8; ROOM];
+    fill(field(line, place), &mut slots);
+    Queue {
         slots,
-        head: number(field(line, 2)) as usize,
-        count: number(field(line, 3)) as usize,
-    };
-    VaricodeEncoder {
-        pending,
-        first: number(field(line, 4)) == 1,
+        head: number(field(line, place + 1)) as usize,
+        count: number(field(line, place + 2)) as usize,
     }
 }
 
-fn reader(line: &[u8]) -> VaricodeDecoder {
-    let mut slots = [0u8; 64];
-    fill(field(line, 5), &mut slots);
-    let chars = CharQueue {
-        slots,
-        head: number(field(line, 6)) as usize,
-        count: number(field(line, 7)) as usize,
-    };
-    VaricodeDecoder {
-        pauses: number(field(line, 1)) == 1,
-        shift: (number(field(line, 2)) % 0x1_0000) as u16,
-        len: byte(field(line, 3)),
-        prev_zero: number(field(line, 4)) == 1,
-        chars,
-    }
-}
-
-// The steps from a place of the line on.
+// The steps from a place of the line on, one after the other.
 fn steps<W: Write>(to: &mut W, line: &[u8], from: usize, start: Coders) -> io::Result<Coders> {
     let mut coders = start;
-    let mut at = start_of(line, from);
-    while at < line.len() {
-        let end = at + find(&line[at..], b' ');
-        coders = step(to, coders, &line[at..end])?;
-        at = end + 1;
+    for text in line.split(|b| *b == b' ').skip(from) {
+        coders = step(to, coders, text)?;
     }
     Ok(coders)
 }
@@ -117,23 +98,32 @@ fn steps<W: Write>(to: &mut W, line: &[u8], from: usize, start: Coders) -> io::R
 // `oN`, `cN`: an opening, a closing. `bBYTES`, `tN`: bytes written, bits taken out. `iBYTES`, `pN`: bits put in,
 // characters taken out.
 fn step<W: Write>(to: &mut W, coders: Coders, text: &[u8]) -> io::Result<Coders> {
-    if text.len() == 0 {
+    let Some((&letter, rest)) = text.split_first() else {
         return Ok(coders);
-    }
-    let letter = text[0];
-    let rest = &text[1..];
-    let mut values = lent();
+    };
+    let mut values: [u8; SHORT] = lent();
     match letter {
         b'b' | b'i' => {
             let n = fill(rest, &mut values);
-            calls(to, coders, letter, &values[0..n])
+            calls(to, coders, letter, &values[..n])
         }
         b't' | b'p' => {
             let n = room(rest, SHORT);
-            calls(to, coders, letter, &values[0..n])
+            calls(to, coders, letter, &values[..n])
         }
         _ => run(to, coders, letter, number(rest) as usize),
     }
+}
+
+// A call for each value, and an answer printed for each. What takes out needs no value.
+fn calls<W: Write>(to: &mut W, start: Coders, letter: u8, values: &[u8]) -> io::Result<Coders> {
+    let mut coders = start;
+    for &value in values {
+        let called = call(coders, letter, value);
+        print_number(to, called.answer, 1)?;
+        coders = called.coders;
+    }
+    Ok(coders)
 }
 
 // What one call answers, as a number, and the writer and the reader after it.
@@ -143,102 +133,75 @@ struct Called {
     coders: Coders,
 }
 
-// A call for each value, and an answer printed for each. What takes out needs no value.
-fn calls<W: Write>(to: &mut W, start: Coders, letter: u8, values: &[u8]) -> io::Result<Coders> {
-    let mut coders = start;
-    let mut text = [0u8; TEXT];
-    let mut at = 0;
-    for i in 0..values.len() {
-        let called = call(coders, letter, values[i]);
-        at = put_number(to, &mut text, at, called.answer)?;
-        coders = called.coders;
-    }
-    write_front(to, &text, at)?;
-    Ok(coders)
-}
-
 fn call(coders: Coders, letter: u8, value: u8) -> Called {
-    let encoder = coders.encoder;
-    let decoder = coders.decoder;
     match letter {
-        b'b' => wrote(encoder.push_byte(value), decoder),
-        b't' => took_bit(encoder.next_bit(), decoder),
-        b'i' => pushed(encoder, decoder.push_bit(value)),
-        _ => took_char(encoder, decoder.pop_char()),
+        b'b' => {
+            let after = coders.encoder.push_byte(value);
+            coders.wrote(put_said(after.answer), after.coder)
+        }
+        b't' => {
+            let after = coders.encoder.next_bit();
+            coders.wrote(taken_said(after.answer), after.coder)
+        }
+        b'i' => {
+            let after = coders.decoder.push_bit(value);
+            coders.heard(put_said(after.answer), after.coder)
+        }
+        _ => {
+            let after = coders.decoder.pop_char();
+            coders.heard(taken_said(after.answer), after.coder)
+        }
     }
 }
 
 // An opening or a closing.
 fn run<W: Write>(to: &mut W, coders: Coders, letter: u8, n: usize) -> io::Result<Coders> {
-    let encoder = coders.encoder;
-    let decoder = coders.decoder;
-    let called = match letter {
-        b'o' => wrote(encoder.push_preamble(n), decoder),
-        _ => wrote(encoder.push_postamble(n), decoder),
+    let after = match letter {
+        b'o' => coders.encoder.push_preamble(n),
+        _ => coders.encoder.push_postamble(n),
     };
-    print_number(to, called.answer, 1)?;
-    Ok(called.coders)
+    print_number(to, put_said(after.answer), 1)?;
+    Ok(Coders {
+        encoder: after.coder,
+        ..coders
+    })
 }
 
-fn wrote(after: Wrote, decoder: VaricodeDecoder) -> Called {
-    let encoder = after.encoder;
-    let answer = after.answer;
-    Called {
-        answer: put_said(answer),
-        coders: Coders { encoder, decoder },
+impl Coders {
+    fn wrote(self, answer: u64, encoder: VaricodeEncoder) -> Called {
+        Called {
+            answer,
+            coders: Coders { encoder, ..self },
+        }
     }
-}
 
-fn took_bit(after: NextBit, decoder: VaricodeDecoder) -> Called {
-    let encoder = after.encoder;
-    let answer = after.answer;
-    Called {
-        answer: taken_said(answer),
-        coders: Coders { encoder, decoder },
-    }
-}
-
-fn pushed(encoder: VaricodeEncoder, after: Pushed) -> Called {
-    let decoder = after.decoder;
-    let answer = after.answer;
-    Called {
-        answer: put_said(answer),
-        coders: Coders { encoder, decoder },
-    }
-}
-
-fn took_char(encoder: VaricodeEncoder, after: NextChar) -> Called {
-    let decoder = after.decoder;
-    let answer = after.answer;
-    Called {
-        answer: taken_said(answer),
-        coders: Coders { encoder, decoder },
+    fn heard(self, answer: u64, decoder: VaricodeDecoder) -> Called {
+        Called {
+            answer,
+            coders: Coders { decoder, ..self },
+        }
     }
 }
 
 // 0 for done, or a refusal as a door says it.
-fn put_said(answer: Put) -> u64 {
+fn put_said(answer: Result<(), Refusal>) -> u64 {
     match answer {
-        Put::Done => 0,
-        Put::Refused(r) => count_number(Counted::Refused(r)),
+        Ok(()) => 0,
+        Err(r) => refused_number(r),
     }
 }
 
 // What is taken out, or 100 for nothing.
-fn taken_said(answer: Taken) -> u64 {
+fn taken_said(answer: Option<u8>) -> u64 {
     match answer {
-        Taken::One(b) => b as u64,
-        Taken::Nothing => 256,
+        Some(b) => b as u64,
+        None => 0x100,
     }
 }
 
 // Prints a record: the slots, the head, the count, whether no byte was written.
 fn print_writer<W: Write>(to: &mut W, encoder: VaricodeEncoder) -> io::Result<()> {
-    let pending = encoder.pending;
-    let slots = pending.slots;
-    print_bytes(to, &slots)?;
-    print_number(to, pending.head as u64, 1)?;
-    print_number(to, pending.count as u64, 1)?;
+    print_queue(to, encoder.pending)?;
     print_number(to, encoder.first as u64, 1)
 }
 
@@ -249,9 +212,12 @@ fn print_reader<W: Write>(to: &mut W, decoder: VaricodeDecoder) -> io::Result<()
     print_number(to, decoder.shift as u64, 4)?;
     print_number(to, decoder.len as u64, 2)?;
     print_number(to, decoder.prev_zero as u64, 1)?;
-    let chars = decoder.chars;
-    let slots = chars.slots;
-    print_bytes(to, &slots)?;
-    print_number(to, chars.head as u64, 1)?;
-    print_number(to, chars.count as u64, 1)
+    print_queue(to, decoder.chars)
+}
+
+// Prints a queue's slots, its head and its count.
+fn print_queue<W: Write, const ROOM: usize>(to: &mut W, q: Queue<ROOM>) -> io::Result<()> {
+    print_bytes(to, &q.slots)?;
+    print_number(to, q.head as u64, 1)?;
+    print_number(to, q.count as u64, 1)
 }

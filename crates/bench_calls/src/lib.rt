@@ -16,7 +16,6 @@ ghost use Rattle.bench_calls.specs.Inner.{PutsBits};
 
 use refusal::Refusal;
 use streaming::{Emitted, StreamingViterbi};
-use varicode_words::Letter;
 
 // The block decoder of symbols.
 #[unsafe(no_mangle)]
@@ -98,12 +97,12 @@ pub extern "C" fn timed_flush(d: &mut StreamingViterbi, out: &mut [u8]) -> u64
 }
 
 // A looked-up byte as one number: the byte, or 256 where there is none.
-fn letter_number(letter: Letter) -> u64
+fn letter_number(letter: Option<u8>) -> u64
     ensures { result ≡ letter_number (letter_said letter) }
 {
     match letter {
-        Letter::Byte(b) => b as u64,
-        Letter::Nothing => 256,
+        Some(b) => b as u64,
+        None => 256,
     }
 }
 

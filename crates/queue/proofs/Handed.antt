@@ -55,11 +55,11 @@ module _ {cap : ℕ} {p : Ring} (whole : InRange cap p) {n : ℕ} (holds : p.cou
   some none = omega arith
 
   pub front_taken : taken cap p ≡ front p ∷ []
-  front_taken = taken_front cap (omega (arith, whole.head)) p p (sym (read_in_range whole)) some
+  front_taken = taken_front cap p p (sym (read_in_range whole)) some
 
   pub one_fewer : (left cap p).count ≡ n
   one_fewer =
-      ap (λ (q : Ring). q.count) (left_rest cap (omega (arith, whole.head)) p p (sym (read_in_range whole)) some) ∙ omega arith
+      ap (λ (q : Ring). q.count) (left_rest cap p p (sym (read_in_range whole)) some) ∙ omega arith
 
 -- an element that moved from the front of a list to the end of the one before it
 pub behind : (out : List ℕ) (v : ℕ) (l : List ℕ) → (out ++ v ∷ []) ++ l ≡ out ++ v ∷ l

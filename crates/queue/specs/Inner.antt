@@ -1,6 +1,11 @@
 -- What the functions on queues ask. Definitions only.
-use Rattle.std.specs.Prelude.{ℕ, ◌+◌, ◌≤◌, ◌<◌}
+use Rattle.std.specs.Prelude.{ℕ, ◌+◌, ◌^◌, ◌≤◌, ◌<◌}
 use Rattle.queue.specs.Ring.{Ring}
+
+-- how many elements an array may take: one at least, and so few that the sum of a head and a count is a `usize`
+pub record Size (cap : ℕ) : Type 0 where
+  pub some : 0 < cap
+  pub sums : cap + cap < 2 ^ 64
 
 -- within the array, with room for n more
 pub record Room (cap : ℕ) (r : Ring) (n : ℕ) : Type 0 where

@@ -17,7 +17,6 @@ use Rattle.refusal.specs.Numbers.{bad_bit, queue_full}
 use Rattle.refusal.proofs.Told.{accepted_past, accepted_passed}
 use Rattle.varicode_reader.specs.Reader.{Heard, nothing_heard, ends, letter_at, heard_after, joined_to, read_heard}
 use Rattle.varicode_reader.specs.Reader.{brings_from, letters_from}
-use Rattle.varicode_reader.proofs.Bits.{made}
 use Rattle.varicode_reader.specs.Reader.{Reader, fresh_reader, brought, no_room, with_letter, bit_said, bit_leaves, char_leaves}
 use Rattle.read_back.specs.Runs.{ReaderRun, start, feeds, takes, finds_none}
 
@@ -53,6 +52,10 @@ module _ (p : Bool) where
 -- so that the length of a reached reader is read as it stands
 read_short : (h : Heard) → h.len ≤ 11 → read_heard h ≡ h
 read_short h s = ap (λ (n : ℕ). record { shift = h.shift; len = n; prev_zero = h.prev_zero }) (mod-eq_of_lt (omega arith))
+
+-- a reader of these parts
+abbrev made : Bool → Heard → Ring → Reader
+made p h q = record { pauses = p; heard = h; chars = q }
 
 pub record ReaderHolds (p : Bool) (r : Reader) (bits out : List ℕ) : Type 0 where
   pub pauses : r.pauses ≡ p

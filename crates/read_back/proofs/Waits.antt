@@ -5,7 +5,7 @@ use mathlib.Core.Path.{◌≡◌, refl, ap}
 use Prim.Native.Nat.{ℕ, ◌+◌, ◌≤◌}
 use native.Mathlib.Omega.{arith}
 use borrow.Author.Tests.{le-ltb, ltb-true}
-use lib.Dec.{ltb, lit<}
+use lib.Dec.{ltb}
 use lib.ListN.{length}
 use Rattle.queue.specs.Ring.{Ring, read_as, char_room}
 use Rattle.queue.specs.Take.{left}
@@ -29,7 +29,7 @@ room_then : (letter : List ℕ) (q : Ring) → length letter ≤ 1 → no_room l
 unfolding no_room
 room_then letter q few full =
     let over = ltb-true char_room ((read_as char_room q).count + length letter) full in
-    let fewer = ap (λ (r : Ring). r.count) (left_rest char_room (lit< tt) (read_as char_room q) q refl (λ none. omega arith)) in
+    let fewer = ap (λ (r : Ring). r.count) (left_rest char_room (read_as char_room q) q refl (λ none. omega arith)) in
     le-ltb char_room ((read_as char_room (left char_room q)).count + length letter) (omega arith)
 
 pub refused_bits_wait : RefusedBitsWait

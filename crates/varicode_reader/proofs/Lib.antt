@@ -1,6 +1,5 @@
--- Ends: when a zero ends the word. Bits: the ways of a bit that is pushed. WordEnds: what a zero that ends the word brings,
--- as tactics are to apply it. Unique: each contract allows one outcome at most.
+-- Ends: when a zero ends the word. WordEnds: what a zero that ends the word brings, as tactics are to apply it. Unique:
+-- each contract allows one outcome at most.
 pub mod Ends
-pub mod Bits
 pub mod WordEnds
 pub mod Unique

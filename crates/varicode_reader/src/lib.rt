@@ -2,15 +2,14 @@
 // a word.
 #![tactic(auto)]
 
-ghost use Rattle.std.specs.Prelude.{true, false, ◌≡◌, ◌+◌, ◌-◌, min, ◌≤◌};
+ghost use Rattle.std.specs.Prelude.{true, false, ◌≡◌, ◌≤◌};
 ghost use Rattle.varicode_reader.specs.Reader.{fresh_reader, zero_ends, read_heard};
 ghost use Rattle.varicode_reader.specs.Records.{reader};
 ghost use Rattle.varicode_reader.specs.Promise.{Pushes, GivesChar};
-ghost use Rattle.varicode_reader.specs.Inner.{Joins, Forgets};
+ghost use Rattle.varicode_reader.specs.Inner.{Accepts, Refuses, Joins, Forgets};
 
-use queue::{CharQueue, Taken};
-use refusal::Put;
-use varicode_words::Letter;
+use queue::CharQueue;
+use refusal::{Answered, Refusal};
 
 // The reader: whether it is for pauses, the bits of the word that it is in, how many, whether the last was a zero,
 // and the characters that are not taken out yet.
@@ -23,31 +22,19 @@ pub struct VaricodeDecoder {
     pub chars: CharQueue,
 }
 
-// A bit that was pushed: its answer, and the reader after it.
-#[derive(Clone, Copy)]
-pub struct Pushed {
-    pub answer: Put,
-    pub decoder: VaricodeDecoder,
-}
+// What a call that pushes a bit answers, and one that takes a character out, with the reader after it.
+pub type Pushed = Answered<Result<(), Refusal>, VaricodeDecoder>;
 
-#[derive(Clone, Copy)]
-pub struct NextChar {
-    pub answer: Taken,
-    pub decoder: VaricodeDecoder,
-}
+pub type NextChar = Answered<Option<u8>, VaricodeDecoder>;
 
-// The length of a word without its last bit.
-fn one_less(len: u8) -> u8
-    ensures { result ≡ len - 1 }
+// A bit that is taken, with the reader after it.
+fn done(decoder: VaricodeDecoder) -> Pushed
+    ensures { Accepts decoder result }
 {
-    if len == 0 { 0 } else { len - 1 }
-}
-
-// One bit more, up to 11.
-fn count_up(len: u8) -> u8
-    ensures { result ≡ min (len + 1) 11 }
-{
-    if len < 11 { len + 1 } else { 11 }
+    Pushed {
+        answer: Ok(()),
+        coder: decoder,
+    }
 }
 
 // A reader that has heard nothing, with no characters.
@@ -85,20 +72,12 @@ impl VaricodeDecoder {
         ensures { Pushes self bit result }
     {
         if 1 < bit {
-            return Pushed {
-                answer: refusal::not_done(refusal::BAD_BIT),
-                decoder: self,
-            };
+            return self.refused(Refusal::BadBit);
         }
-        if bit == 0 {
-            if self.zero_ends() {
-                return self.end_word();
-            }
+        if bit == 0 && self.zero_ends() {
+            return self.end_word();
         }
-        Pushed {
-            answer: Put::Done,
-            decoder: self.joined(bit),
-        }
+        done(self.joined(bit))
     }
 
     // Whether a zero ends the word: the second zero of a gap, or, for pauses, one while nothing is heard.
@@ -106,13 +85,7 @@ impl VaricodeDecoder {
     fn zero_ends(self) -> bool
         ensures { result ≡ zero_ends self.pauses (read_heard (reader self).heard) }
     {
-        if self.prev_zero {
-            return true;
-        }
-        if self.pauses {
-            return self.len % 12 == 0;
-        }
-        false
+        self.prev_zero || (self.pauses && self.len % 12 == 0)
     }
 
     // A zero that ends the word: that is looked up without its trailing zero, and everything forgotten.
@@ -121,26 +94,24 @@ impl VaricodeDecoder {
         requires { zero_ends self.pauses (read_heard (reader self).heard) ≡ true }
         ensures { Pushes self 0 result }
     {
-        let chars = self.chars;
-        match varicode_words::varicode_decode(self.shift / 2, one_less(self.len % 12)) {
-            Letter::Byte(c) => {
-                let q = chars.read();
-                if q.count == queue::CHARS {
-                    return Pushed {
-                        answer: refusal::not_done(refusal::QUEUE_FULL),
-                        decoder: self,
-                    };
-                }
-                let more = q.put(c);
-                Pushed {
-                    answer: Put::Done,
-                    decoder: self.forgotten(more),
-                }
-            }
-            Letter::Nothing => Pushed {
-                answer: Put::Done,
-                decoder: self.forgotten(chars),
-            },
+        let len = (self.len % 12).saturating_sub(1);
+        let Some(c) = varicode_words::varicode_decode(self.shift / 2, len) else {
+            return done(self.forgotten(self.chars));
+        };
+        let chars = self.chars.read();
+        if chars.count == queue::CHARS {
+            return self.refused(Refusal::QueueFull);
+        }
+        done(self.forgotten(chars.put(c)))
+    }
+
+    // A refusal: the reader as it came.
+    fn refused(self, r: Refusal) -> Pushed
+        ensures { Refuses r self result }
+    {
+        Pushed {
+            answer: Err(r),
+            coder: self,
         }
     }
 
@@ -149,11 +120,11 @@ impl VaricodeDecoder {
         ensures { Forgets self chars result }
     {
         VaricodeDecoder {
-            pauses: self.pauses,
             shift: 0,
             len: 0,
             prev_zero: false,
             chars,
+            ..self
         }
     }
 
@@ -162,40 +133,22 @@ impl VaricodeDecoder {
         requires { bit ≤ 1 }
         ensures { Joins self bit result }
     {
-        let chars = self.chars;
-        let wide = 2 * (self.shift as u32) + (bit as u32);
         VaricodeDecoder {
-            pauses: self.pauses,
-            shift: (wide % 65536) as u16,
-            len: count_up(self.len % 12),
+            shift: (self.shift << 1) + (bit as u16),
+            len: (self.len % 12 + 1).min(11),
             prev_zero: bit == 0,
-            chars,
+            ..self
         }
     }
 
     // The next character, taken out.
-    #[tactic(auto, unfolding(queue::specs::Take::taken, queue::specs::Take::left))]
     pub fn pop_char(self) -> NextChar
         ensures { GivesChar self result }
     {
-        let chars = self.chars;
-        let q = chars.read();
-        if q.count == 0 {
-            return NextChar {
-                answer: Taken::Nothing,
-                decoder: self,
-            };
-        }
-        let rest = q.rest();
+        let (answer, chars) = self.chars.take();
         NextChar {
-            answer: Taken::One(q.front()),
-            decoder: VaricodeDecoder {
-                pauses: self.pauses,
-                shift: self.shift,
-                len: self.len,
-                prev_zero: self.prev_zero,
-                chars: rest,
-            },
+            answer,
+            coder: VaricodeDecoder { chars, ..self },
         }
     }
 }

@@ -1,12 +1,12 @@
 -- What holds of Martinez's table, each by one test over its 128 words. Assumes nothing.
 use mathlib.Core.Bool.{Bool, true, false, ◌&&◌}
-use mathlib.Core.List.{[], ◌∷◌, map}
-use mathlib.Core.Path.{◌≡◌, refl, sym, ap, ◌∙◌}
+use mathlib.Core.List.{[], ◌∷◌}
+use mathlib.Core.Path.{◌≡◌, refl}
 use Prim.Native.Nat.{ℕ, suc, ◌-◌, ◌%◌, ◌^◌, ◌<◌, ◌≤◌}
 use native.Mathlib.Omega.{arith}
 use borrow.Author.Tests.{lt-ltb, le-ltb, ltb-true, ltb-false}
 use lib.Dec.{T, ltb, leb, eqb, ltb→lt, leb→le, eqb→eq, lit<}
-use lib.ListN.{length, get_or, get_or-map}
+use lib.ListN.{length, get_or}
 use Rattle.binary.proofs.Values.{length_digits}
 use Rattle.varicode_words.specs.Table.{words}
 use Rattle.varicode_words.specs.Word.{length_of, word_of, bits_of, sound, decode_of}
@@ -18,10 +18,6 @@ use Rattle.varicode_words.proofs.Table.{both, same, same_equal, passes, passes_a
 pub word_at : (b : ℕ) → b < 128 → word_of b ≡ get_or words b 0
 unfolding word_of
 word_at b h = rw (lt-ltb b 128 h)
-
-pub length_at : (b : ℕ) → b < 128 → length_of (word_of b) ≡ get_or (map length_of words) b 0
-unfolding length_of
-length_at b h = ap length_of (word_at b h) ∙ sym (get_or-map length_of words b 0)
 
 pub word_high : (b : ℕ) → 128 ≤ b → word_of b ≡ word_of 0
 unfolding word_of

@@ -1,12 +1,11 @@
 -- Tests that antt computes: that two lists are equal, and that a rule holds at all entries of a table. Over any list and test.
 -- Assumes nothing.
-use mathlib.Core.Bool.{Bool, true, false, ◌&&◌, ◌||◌}
+use mathlib.Core.Bool.{Bool, true, false, ◌&&◌}
 use mathlib.Core.List.{List, [], ◌∷◌}
 use mathlib.Core.Path.{◌≡◌, refl, ap₂, subst}
 use Prim.Native.Nat.{ℕ, zero, suc, ◌+◌, ◌<◌}
 use native.Mathlib.Nat.{zero-add, le_of_suc-le-suc, not-suc-le-zero}
 use native.Mathlib.Omega.{arith}
-use borrow.Author.Tests.{eqb-true, eqb-false, ne_eqb}
 use lib.Dec.{T, eqb, eqb→eq}
 use lib.ListN.{length, get_or}
 
@@ -28,36 +27,6 @@ same_equal (x ∷ xs) [] t = absurd t
 same_equal (x ∷ xs) (y ∷ ys) t =
     let passed = both (eqb x y) (same xs ys) t in
     ap₂ (λ (n : ℕ) (ns : List ℕ). n ∷ ns) (eqb→eq x y passed.0) (same_equal xs ys passed.1)
-
--- the test passes at each number below n
-abbrev pub all_below : (ℕ → Bool) → ℕ → Bool
-all_below test zero = true
-all_below test (suc n) = test n && all_below test n
-
-pub all_below-at : (test : ℕ → Bool) (n : ℕ) → T (all_below test n) → (k : ℕ) → k < n → T (test k)
-all_below-at test zero t k h = absurd (not-suc-le-zero h)
-all_below-at test (suc n) t k h =
-    let passed = both (test n) (all_below test n) t in
-    of (eqb k n) refl passed.0 (λ less. all_below-at test n passed.1 k less)
-  where
-    of : (last : Bool) → eqb k n ≡ last → T (test n) → (k < n → T (test k)) → T (test k)
-    of true e here before = rw (eqb-true k n e) here
-    of false e here before = before (omega (arith, eqb-false k n e))
-
--- a number is none of these, as the default of a `match` on them knows it: of the last one outermost
-abbrev pub NoneOf : List ℕ → ℕ → Type 0
-NoneOf [] n = Unit
-NoneOf (k ∷ ks) n = NoneOf ks n × (n ≡ k → ⊥)
-
-abbrev pub one_of : List ℕ → ℕ → Bool
-one_of [] n = false
-one_of (k ∷ ks) n = eqb n k || one_of ks n
-
--- of two tests of which one passes, the second does where the number is none of these
-pub passes_else : (ks : List ℕ) (n : ℕ) (test : Bool) → NoneOf ks n → T (one_of ks n || test) → T test
-passes_else [] n test others t = t
-passes_else (k ∷ ks) n test others t =
-    passes_else ks n test others.0 (rw (ne_eqb n k others.1) at t)
 
 module _ {A : Type 0} where
   -- the test passes at each entry and its place, counted from i

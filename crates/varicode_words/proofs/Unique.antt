@@ -2,8 +2,7 @@
 -- and what it leaves in each argument. Assumes nothing.
 use mathlib.Core.Path.{◌≡◌, ap₂, sym, ◌∙◌}
 use Prim.Native.Nat.{ℕ}
-use Rattle.varicode_words.specs.declared.Letter.{Letter}
-use Rattle.varicode_words.specs.declared.Letter.TheVariants as letter
+use Rattle.std.specs.Prelude.{Option, Some, None}
 use Rattle.varicode_words.specs.declared.Word.{Word}
 use Rattle.varicode_words.specs.Word.{letter_said}
 use Rattle.varicode_words.proofs.varicode_encode.Reads as varicode_encode
@@ -18,13 +17,13 @@ pub varicode_encode-determined :
 varicode_encode-determined κs given r r' left left' p q = ap₂ made (p.bits ∙ sym q.bits) (p.len ∙ sym q.len)
 
 -- an answer is fixed by what is said of it
-pub letter_told : (a b : Letter) → letter_said a ≡ letter_said b → a ≡ b
-letter_told (letter.Byte m) (letter.Byte n) e = cc
-letter_told (letter.Byte m) letter.Nothing e = cc
-letter_told letter.Nothing (letter.Byte n) e = cc
-letter_told letter.Nothing letter.Nothing e = cc
+pub letter_told : (a b : Option ℕ) → letter_said a ≡ letter_said b → a ≡ b
+letter_told (Some m) (Some n) e = cc
+letter_told (Some m) None e = cc
+letter_told None (Some n) e = cc
+letter_told None None e = cc
 
 pub varicode_decode-determined :
-    (κs : _) (given : _) (r r' : Letter) (left left' : _) →
+    (κs : _) (given : _) (r r' : Option ℕ) (left left' : _) →
     varicode_decode.Post κs given r left → varicode_decode.Post κs given r' left' → r ≡ r'
 varicode_decode-determined κs given r r' left left' p q = letter_told r r' (p ∙ sym q)

@@ -1,13 +1,10 @@
 -- What the inner functions ask and ensure: the table by value. Definitions only.
-use Rattle.std.specs.Prelude.{cond, List, [], ◌∷◌, ◌≡◌, ℕ, ◌+◌, ◌*◌, ◌/◌, ◌%◌, ◌^◌, ◌<◌, eqb}
+use Rattle.std.specs.Prelude.{cond, List, [], ◌∷◌, ◌≡◌, ℕ, eqb}
 use Rattle.varicode_words.specs.Word.{length_of, decode_of}
 
--- how many values the table has, since a word has at most ten bits; and how many rows of eight
+-- how many values the table has, since a word has at most ten bits
 abbrev pub values : ℕ
 values = 1024
-
-abbrev pub rows : ℕ
-rows = values / 8
 
 -- the mark: the entry of a value that is no word
 abbrev pub no_word : ℕ
@@ -20,11 +17,3 @@ byte_in entry = cond (eqb entry no_word) [] (entry ∷ [])
 -- `entry_at`: the entry of a value is right: it has the byte whose word the value is, or the mark where there is none
 pub record Right (value entry : ℕ) : Type 0 where
   pub byte : byte_in entry ≡ decode_of value (length_of value)
-
--- `entry_in`: the entry at a place of a row, which has eight of them, a byte each, the first one lowest
-unfoldable pub entry_in : (row place : ℕ) → ℕ
-entry_in row place = row / 2 ^ (8 * place) % 256
-
--- `row_of`: the entries of a row are right
-pub record RightRow (n row : ℕ) : Type 0 where
-  pub entries : (place : ℕ) → place < 8 → Right (8 * n + place) (entry_in row place)

@@ -1,10 +1,9 @@
 -- The word of a byte, and the byte of a word. Definitions only.
 use Rattle.std.specs.Prelude.{Bool, false, cond, ◌&&◌, List, [], ◌∷◌, ◌≡◌, ℕ, suc, ◌-◌, ltb, eqb, get_or}
+use Rattle.std.specs.Prelude.{Option, Some, None}
 use Rattle.std.specs.Int.Count.{count_leading_zeros}
 use Rattle.binary.specs.Digits.{digits}
 use Rattle.varicode_words.specs.declared.Word.{Word}
-use Rattle.varicode_words.specs.declared.Letter.{Letter}
-use Rattle.varicode_words.specs.declared.Letter.TheVariants as letter
 use Rattle.varicode_words.specs.Table.{words}
 
 -- a word begins with 1, so its length is that of the number in binary
@@ -33,9 +32,9 @@ pub record Spells (byte : ℕ) (r : Word) : Type 0 where
   pub len : r.len ≡ length_of (word_of byte)
 
 -- the byte that `varicode_decode` answers, if there is one
-abbrev pub letter_said : Letter → List ℕ
-letter_said (letter.Byte b) = b ∷ []
-letter_said letter.Nothing = []
+abbrev pub letter_said : Option ℕ → List ℕ
+letter_said (Some b) = b ∷ []
+letter_said None = []
 
 -- the place of the first word of a list, counted from k, that has these bits and this length, if there is one
 unfoldable pub found : List ℕ → ℕ → ℕ → ℕ → List ℕ

@@ -13,15 +13,8 @@ pub struct Word {
     pub len: u8,
 }
 
-// What a word stands for.
-#[derive(Clone, Copy)]
-pub enum Letter {
-    Byte(u8),
-    Nothing,
-}
-
 // The words of bytes 0 to 127.
-const WORDS: [u16; 128] = [
+static WORDS: [u16; 128] = [
     0b1010101011, // 0 NUL
     0b1011011011, // 1 SOH
     0b1011101101, // 2 STX
@@ -152,146 +145,25 @@ const WORDS: [u16; 128] = [
     0b1110110101, // 127 DEL
 ];
 
-// Their lengths.
-const LENGTHS: [u8; 128] = [
-    10, // 0 NUL
-    10, // 1 SOH
-    10, // 2 STX
-    10, // 3 ETX
-    10, // 4 EOT
-    10, // 5 ENQ
-    10, // 6 ACK
-    10, // 7 BEL
-    10, // 8 BS
-    8, // 9 HT
-    5, // 10 LF
-    10, // 11 VT
-    10, // 12 FF
-    5, // 13 CR
-    10, // 14 SO
-    10, // 15 SI
-    10, // 16 DLE
-    10, // 17 DC1
-    10, // 18 DC2
-    10, // 19 DC3
-    10, // 20 DC4
-    10, // 21 NAK
-    10, // 22 SYN
-    10, // 23 ETB
-    10, // 24 CAN
-    10, // 25 EM
-    10, // 26 SUB
-    10, // 27 ESC
-    10, // 28 FS
-    10, // 29 GS
-    10, // 30 RS
-    10, // 31 US
-    1, // 32 SP
-    9, // 33 !
-    9, // 34 "
-    9, // 35 #
-    9, // 36 $
-    10, // 37 %
-    10, // 38 &
-    9, // 39 '
-    8, // 40 (
-    8, // 41 )
-    9, // 42 *
-    9, // 43 +
-    7, // 44 ,
-    6, // 45 -
-    7, // 46 .
-    9, // 47 /
-    8, // 48 0
-    8, // 49 1
-    8, // 50 2
-    8, // 51 3
-    9, // 52 4
-    9, // 53 5
-    9, // 54 6
-    9, // 55 7
-    9, // 56 8
-    9, // 57 9
-    8, // 58 :
-    9, // 59 ;
-    9, // 60 <
-    7, // 61 =
-    9, // 62 >
-    10, // 63 ?
-    10, // 64 @
-    7, // 65 A
-    8, // 66 B
-    8, // 67 C
-    8, // 68 D
-    7, // 69 E
-    8, // 70 F
-    8, // 71 G
-    9, // 72 H
-    7, // 73 I
-    9, // 74 J
-    9, // 75 K
-    8, // 76 L
-    8, // 77 M
-    8, // 78 N
-    8, // 79 O
-    8, // 80 P
-    9, // 81 Q
-    8, // 82 R
-    7, // 83 S
-    7, // 84 T
-    9, // 85 U
-    9, // 86 V
-    9, // 87 W
-    9, // 88 X
-    9, // 89 Y
-    10, // 90 Z
-    9, // 91 [
-    9, // 92 backslash
-    9, // 93 ]
-    10, // 94 ^
-    9, // 95 _
-    10, // 96 `
-    4, // 97 a
-    7, // 98 b
-    6, // 99 c
-    6, // 100 d
-    2, // 101 e
-    6, // 102 f
-    7, // 103 g
-    6, // 104 h
-    4, // 105 i
-    9, // 106 j
-    8, // 107 k
-    5, // 108 l
-    6, // 109 m
-    4, // 110 n
-    3, // 111 o
-    6, // 112 p
-    9, // 113 q
-    5, // 114 r
-    5, // 115 s
-    3, // 116 t
-    6, // 117 u
-    7, // 118 v
-    7, // 119 w
-    8, // 120 x
-    7, // 121 y
-    9, // 122 z
-    10, // 123 {
-    9, // 124 |
-    10, // 125 }
-    10, // 126 ~
-    10, // 127 DEL
-];
+// How many bits a value has in binary, from its first 1 on.
+#[tactic(auto, unfolding(crate::specs::Word::length_of))]
+fn length_of(bits: u16) -> u8
+    ensures { result ≡ length_of bits }
+{
+    (16 - bits.leading_zeros()) as u8
+}
 
-// What stands in both tables at a place.
+// The word at a place of the table. It begins with 1, so that its bits tell its length.
+#[tactic(auto, using(crate::proofs::Facts::word_at))]
 fn word_at(i: usize) -> Word
     requires { i < 128 }
     ensures { Spells i result }
 {
     let bits = WORDS[i];
-    let len = LENGTHS[i];
-    Word { bits, len }
+    Word {
+        bits,
+        len: length_of(bits),
+    }
 }
 
 // The word of a byte; bytes 128 to 255 have byte 0's.
@@ -306,26 +178,14 @@ pub fn varicode_encode(byte: u8) -> Word
     }
 }
 
-// How many bits a value has in binary, from its first 1 on.
-fn length_of(bits: u16) -> u8
-    ensures { result ≡ length_of bits }
-{
-    (16 - u16::leading_zeros(bits)) as u8
-}
-
-// The byte whose word has these bits and this length, if there is one. A word begins with 1, so that its value has one
-// length, its own.
+// The byte whose word has these bits and this length, if there is one. A word's value has one length, its own.
 #[tactic(auto, using(crate::proofs::NoWord::decode_large, crate::proofs::NoWord::decode_other_length))]
-pub fn varicode_decode(bits: u16, len: u8) -> Letter
+pub fn varicode_decode(bits: u16, len: u8) -> Option<u8>
     ensures { letter_said result ≡ decode_of bits len }
 {
     let value = bits as usize;
-    if value >= bytes::VALUES {
-        return Letter::Nothing;
-    }
-    let own = length_of(bits);
-    if own != len {
-        return Letter::Nothing;
+    if value >= bytes::VALUES || length_of(bits) != len {
+        return None;
     }
     bytes::letter_of(bytes::entry_at(value))
 }

@@ -5,46 +5,41 @@ use mathlib.Core.List.{List, ◌++◌}
 use mathlib.Core.Path.{◌≡◌, refl, sym, ap, ◌∙◌}
 use Prim.Native.Nat.{ℕ, ◌+◌, ◌≤◌, ◌<◌}
 use native.Mathlib.Omega.{arith}
-use borrow.Author.Tests.{lt-ltb, le-ltb, le-leb, lt-leb, leb-true, leb-false}
-use lib.Dec.{leb, lit<}
+use borrow.Author.Tests.{lt-ltb, le-ltb, le-leb, lt-leb, leb-false}
+use lib.Dec.{lit<}
 use lib.ListN.{length, replicate, length-append, length-replicate}
 use Rattle.binary.specs.Digits.{digits}
 use Rattle.binary.proofs.Values.{length_digits}
-use Rattle.queue.specs.declared.BitQueue.{BitQueue}
-use Rattle.queue.specs.Inner.{Room}
-use Rattle.queue.specs.Records.{bits}
+use Rattle.queue.specs.declared.Queue.{Queue}
+use Rattle.queue.specs.Records.{ring}
 use Rattle.queue.specs.Ring.{Ring, read_as, put_all, bit_room}
 use Rattle.queue.proofs.Rings.{read_room, put_all-append, put_all-room}
-use Rattle.refusal.specs.Answer.{refused}
+use Rattle.refusal.specs.Answer.{refused, answer_said}
+use Rattle.refusal.specs.declared.Refusal.{Refusal}
 use Rattle.refusal.specs.Numbers.{queue_full, bad_byte}
 use Rattle.varicode_words.specs.Word.{length_of, word_of, bits_of}
 use Rattle.varicode_writer.specs.declared.VaricodeEncoder.{VaricodeEncoder}
-use Rattle.varicode_writer.specs.declared.Wrote.{Wrote}
 use Rattle.varicode_writer.specs.Writer.{Call, opening, byte, closing, gap, bits_put, first_after}
 use Rattle.varicode_writer.specs.Writer.{Writer, high_byte, too_many, put_said, put_leaves}
-use Rattle.varicode_writer.specs.Records.{writer}
+use Rattle.varicode_writer.specs.Records.{writer, Wrote}
 use Rattle.varicode_writer.specs.Promise.{Puts}
-use Rattle.varicode_writer.specs.Inner.{Accepts, Refuses}
+use Rattle.varicode_writer.specs.Inner.{Accepts, Refuses, held, Spaced, Full}
 
--- a queue as it is read is within its array
-pub read_within : (q p : Ring) → q ≡ read_as bit_room p → Room bit_room q 0
-read_within q p e = rw e (read_room (lit< tt) p)
-
--- what fits has room, the gap and then the rest
-module _
-    (q p : Ring) (zeros n : ℕ) (test : Bool) (read : q ≡ read_as bit_room p) (tested : test ≡ leb (q.count + (zeros + n)) bit_room)
-    (yes : test ≡ true) where
-  enough : q.count + (zeros + n) ≤ bit_room
-  enough = leb-true _ _ (sym tested ∙ yes)
-
-  pub gap_room : Room bit_room q zeros
-  gap_room = record { head = (read_within q p read).head; count = omega (arith, enough) }
-
-  pub rest_room : (mid : Ring) → mid ≡ put_all bit_room q (replicate zeros 0) → Room bit_room mid n
-  rest_room mid m =
-      rw m
-      (put_all-room (replicate zeros 0)
-      (record { head = (read_within q p read).head; count = omega (arith, enough, length-replicate {A = ℕ} zeros 0) }))
+-- what fits behind a gap has room there
+pub spaced_room :
+    (w : Writer) (padding n : ℕ) (q new : Ring) → q ≡ read_as bit_room w.pending → q.count + (padding + n) ≤ bit_room →
+    new ≡ put_all bit_room q (replicate padding 0) → Spaced w padding n new
+spaced_room w padding n q new read fits e =
+    let before = read_room (lit< tt) w.pending in
+    let enough : held w + (padding + n) ≤ bit_room = rw read at fits in
+    record {
+      fits = enough;
+      pending = e ∙ rw read refl;
+      room =
+          rw (e, read)
+          (put_all-room (replicate padding 0)
+          (record { head = before.head; count = omega (arith, length-replicate {A = ℕ} padding 0) }));
+    }
 
 -- ---- a byte of 128 or above, and what is none
 
@@ -79,13 +74,6 @@ module _ (w : Writer) (c : Call) (high : high_byte c ≡ true) where
   unfolding put_leaves
   high_byte-changes_nothing = rw high
 
-pub puts_high_byte : (e : VaricodeEncoder) (c : Call) (r : Wrote) → high_byte c ≡ true → Refuses bad_byte e r → Puts e c r
-puts_high_byte e c r high k =
-    record {
-      answer = k.answer ∙ sym (high_byte-refused (writer e) c high);
-      state = ap writer k.state ∙ sym (high_byte-changes_nothing (writer e) c high);
-    }
-
 -- the same of a byte, told by how large it is
 module _ (w : Writer) (b : ℕ) (large : 128 ≤ b) where
   pub large_byte_said : put_said w (byte b) ≡ refused bad_byte 0
@@ -94,34 +82,30 @@ module _ (w : Writer) (b : ℕ) (large : 128 ≤ b) where
   pub large_byte_leaves : put_leaves w (byte b) ≡ w
   large_byte_leaves = high_byte-changes_nothing w (byte b) (byte_high b large)
 
--- ---- a call that puts n bits behind as many zeros, of which the code has tested whether they fit
+-- ---- a call that puts n bits behind as many zeros
 
 module _
-    (e : VaricodeEncoder) (c : Call) (r : Wrote) (q : Ring) (zeros n : ℕ) (test : Bool) (read : q ≡ read_as bit_room (writer e).pending)
-    (not_high : high_byte c ≡ false) (size : length (bits_put e.first c) ≡ zeros + n)
-    (tested : test ≡ leb (q.count + (zeros + n)) bit_room) where
-  abbrev put : List ℕ
-  put = bits_put e.first c
-
-  abbrev held : ℕ
-  held = (read_as bit_room (writer e).pending).count
-
-  same : leb (q.count + (zeros + n)) bit_room ≡ leb (held + length put) bit_room
-  same = rw (read, size)
-
-  pub puts_refused : test ≡ false → Refuses queue_full e r → Puts e c r
+    (e : VaricodeEncoder) (c : Call) (r : Wrote) {padding n : ℕ}
+    (not_high : high_byte c ≡ false) (size : length (bits_put e.first c) ≡ padding + n) where
+  pub puts_refused : (why : Refusal) → Full (writer e) padding n why → Refuses why e r → Puts e c r
   unfolding put_said put_leaves too_many
-  puts_refused f k =
-      let full = lt-ltb bit_room (held + length put) (leb-false _ _ (sym same ∙ sym tested ∙ f)) in
-      record { answer = k.answer ∙ rw (not_high, full); state = ap writer k.state ∙ rw (not_high, full) }
+  puts_refused why f k =
+      let full = lt-ltb bit_room (held (writer e) + length (bits_put e.first c)) (rw size f.over) in
+      let said : answer_said r.answer ≡ refused queue_full 0 = rw (k.answer, f.refusal) refl in
+      record { answer = said ∙ rw (not_high, full); state = ap writer k.state ∙ rw (not_high, full) }
 
-  pub puts_done : test ≡ true → (new : BitQueue) → bits new ≡ put_all bit_room q put → Accepts new (first_after e.first c) r → Puts e c r
+  pub puts_done :
+      {mid : Ring} → Spaced (writer e) padding n mid → (xs : List ℕ) → bits_put e.first c ≡ replicate padding 0 ++ xs →
+      {new : Queue bit_room} → ring new ≡ put_all bit_room mid xs → Accepts new (first_after e.first c) r → Puts e c r
   unfolding put_said put_leaves too_many
-  puts_done f new behind w =
-      let enough = le-ltb bit_room (held + length put) (leb-true _ _ (sym same ∙ sym tested ∙ f)) in
-      let pending : bits r.encoder.pending ≡ put_all bit_room (read_as bit_room (writer e).pending) put =
-      ap bits w.pending ∙ behind ∙ ap (λ (p : Ring). put_all bit_room p put) read in
-      record { answer = w.answer ∙ rw (not_high, enough); state = rw (not_high, enough, pending, w.first) }
+  puts_done s xs split behind w =
+      let enough = le-ltb bit_room (held (writer e) + length (bits_put e.first c)) (rw size s.fits) in
+      let before = read_as bit_room (writer e).pending in
+      let put : put_all bit_room (put_all bit_room before (replicate padding 0)) xs ≡ put_all bit_room before (bits_put e.first c) =
+      rw split (sym (put_all-append bit_room before (replicate padding 0) xs)) in
+      let pending : ring r.coder.pending ≡ put_all bit_room before (bits_put e.first c) =
+      ap ring w.pending ∙ behind ∙ rw s.pending put in
+      record { answer = ap answer_said w.answer ∙ rw (not_high, enough); state = rw (not_high, enough, pending, w.first) }
 
 -- ---- how many bits, and how they are put
 
@@ -143,21 +127,20 @@ length-byte first b =
     length-append (gap first) (bits_of (word_of b))
     ∙ ap (λ (k : ℕ). length (gap first) + k) (length_digits (length_of (word_of b)) (word_of b))
 
--- a gap of as many zeros as it is long, and then the rest
-spaced :
-    (first : Bool) (q : Ring) (xs : List ℕ) →
-    put_all bit_room (put_all bit_room q (replicate (length (gap first)) 0)) xs ≡ put_all bit_room q (gap first ++ xs)
-spaced first q xs = rw (gap_zeros first) (sym (put_all-append bit_room q (gap first) xs))
+-- a gap is as many zeros as it is long, and the rest comes behind
 
-pub closing_put :
-    (first : Bool) (n zeros : ℕ) (q new : Ring) (mid : Ring) → zeros ≡ length (gap first) → mid ≡ put_all bit_room q (replicate zeros 0) →
-    new ≡ put_all bit_room mid (replicate n 1) → new ≡ put_all bit_room q (bits_put first (closing n))
+pub opening_split : (first : Bool) (n : ℕ) → bits_put first (opening n) ≡ replicate 0 0 ++ replicate n 0
 unfolding bits_put
-closing_put first n zeros q new mid z m e = e ∙ rw (m, z) (spaced first q (replicate n 1))
+opening_split first n = refl
 
-pub byte_put :
-    (first : Bool) (b zeros word len : ℕ) (q new : Ring) (mid : Ring) → zeros ≡ length (gap first) → word ≡ word_of b →
-    len ≡ length_of (word_of b) → mid ≡ put_all bit_room q (replicate zeros 0) → new ≡ put_all bit_room mid (digits len word) →
-    new ≡ put_all bit_room q (bits_put first (byte b))
+pub closing_split :
+    (first : Bool) (n padding : ℕ) → padding ≡ length (gap first) →
+    bits_put first (closing n) ≡ replicate padding 0 ++ replicate n 1
+unfolding bits_put
+closing_split first n padding z = rw (z, gap_zeros first) refl
+
+pub byte_split :
+    (first : Bool) (b padding word len : ℕ) → padding ≡ length (gap first) → word ≡ word_of b → len ≡ length_of (word_of b) →
+    bits_put first (byte b) ≡ replicate padding 0 ++ digits len word
 unfolding bits_put bits_of
-byte_put first b zeros word len q new mid z f g m e = e ∙ rw (m, z, f, g) (spaced first q (digits (length_of (word_of b)) (word_of b)))
+byte_split first b padding word len z f g = rw (z, f, g, gap_zeros first) refl

@@ -1,15 +1,12 @@
 -- Of each entry, any two outcomes that its contract allows are equal. `Post` is the contract: of what the call is given, what it returns,
 -- and what it leaves in each argument. `writer` tells two records apart, field by field. Assumes nothing.
 use mathlib.Core.Path.{◌≡◌, ap, ap₂, sym, ◌∙◌}
-use Rattle.queue.specs.declared.Taken.{Taken}
 use Rattle.queue.proofs.Unique.{taken_told}
-use Rattle.refusal.specs.declared.Put.{Put}
-use Rattle.refusal.proofs.Told.{done_told}
+use Rattle.refusal.specs.declared.Answered.{Answered}
+use Rattle.refusal.proofs.Told.{answer_told}
 use Rattle.varicode_writer.specs.declared.VaricodeEncoder.{VaricodeEncoder}
-use Rattle.varicode_writer.specs.declared.Wrote.{Wrote}
-use Rattle.varicode_writer.specs.declared.NextBit.{NextBit}
 use Rattle.varicode_writer.specs.Writer.{Writer, Call}
-use Rattle.varicode_writer.specs.Records.{writer}
+use Rattle.varicode_writer.specs.Records.{writer, Wrote, NextBit}
 use Rattle.varicode_writer.specs.Promise.{Puts}
 use Rattle.varicode_writer.proofs.VaricodeEncoder.new.Reads as new_encoder
 use Rattle.varicode_writer.proofs.VaricodeEncoder.push_preamble.Reads as push_preamble
@@ -30,13 +27,13 @@ pub new_encoder_determined :
     new_encoder.Post κs given r left → new_encoder.Post κs given r' left' → r ≡ r'
 new_encoder_determined κs given r r' left left' p q = writer_told r r' (p ∙ sym q)
 
-abbrev wrote : Put → VaricodeEncoder → Wrote
-wrote a e = record { answer = a; encoder = e }
+abbrev answered : {A : Type 0} → A → VaricodeEncoder → Answered A VaricodeEncoder
+answered a e = record { answer = a; coder = e }
 
 puts_determined : (e : VaricodeEncoder) (c : Call) (r r' : Wrote) → Puts e c r → Puts e c r' → r ≡ r'
 puts_determined e c r r' p q =
-    ap₂ wrote (done_told r.answer r'.answer (p.answer ∙ sym q.answer))
-    (writer_told r.encoder r'.encoder (p.state ∙ sym q.state))
+    ap₂ answered (answer_told r.answer r'.answer (p.answer ∙ sym q.answer))
+    (writer_told r.coder r'.coder (p.state ∙ sym q.state))
 
 pub push_preamble-determined :
     (κs : _) (given : _) (r r' : Wrote) (left left' : _) →
@@ -52,11 +49,8 @@ pub push_postamble-determined :
     push_postamble.Post κs given r left → push_postamble.Post κs given r' left' → r ≡ r'
 push_postamble-determined κs given r r' left left' p q = puts_determined _ _ r r' p q
 
-abbrev next_bit_of : Taken → VaricodeEncoder → NextBit
-next_bit_of a e = record { answer = a; encoder = e }
-
 pub next_bit-determined :
     (κs : _) (given : _) (r r' : NextBit) (left left' : _) → next_bit.Post κs given r left → next_bit.Post κs given r' left' → r ≡ r'
 next_bit-determined κs given r r' left left' p q =
-    ap₂ next_bit_of (taken_told r.answer r'.answer (p.answer ∙ sym q.answer))
-    (writer_told r.encoder r'.encoder (p.state ∙ sym q.state))
+    ap₂ answered (taken_told r.answer r'.answer (p.answer ∙ sym q.answer))
+    (writer_told r.coder r'.coder (p.state ∙ sym q.state))

@@ -1,15 +1,14 @@
 // The Varicode writer: openings, bytes and closings to bits.
 #![tactic(auto)]
 
-ghost use Rattle.std.specs.Prelude.{◌≡◌, ◌+◌, ◌≤◌, leb, length};
-ghost use Rattle.queue.specs.Ring.{bit_room};
+ghost use Rattle.std.specs.Prelude.{◌≡◌, length};
 ghost use Rattle.varicode_writer.specs.Writer.{opening, byte, closing, gap, fresh_writer};
 ghost use Rattle.varicode_writer.specs.Records.{writer};
 ghost use Rattle.varicode_writer.specs.Promise.{Puts, GivesBit};
-ghost use Rattle.varicode_writer.specs.Inner.{Accepts, Refuses};
+ghost use Rattle.varicode_writer.specs.Inner.{Accepts, Refuses, Spaces};
 
-use queue::{BitQueue, Taken};
-use refusal::Put;
+use queue::BitQueue;
+use refusal::{Answered, Refusal};
 
 // The writer: the bits that are not taken out yet, and whether no byte was written since the start or the
 // last opening.
@@ -19,18 +18,10 @@ pub struct VaricodeEncoder {
     pub first: bool,
 }
 
-// A call that puts bits: its answer, and the writer after it.
-#[derive(Clone, Copy)]
-pub struct Wrote {
-    pub answer: Put,
-    pub encoder: VaricodeEncoder,
-}
+// What a call that puts bits answers, and one that takes a bit out, with the writer after it.
+pub type Wrote = Answered<Result<(), Refusal>, VaricodeEncoder>;
 
-#[derive(Clone, Copy)]
-pub struct NextBit {
-    pub answer: Taken,
-    pub encoder: VaricodeEncoder,
-}
+pub type NextBit = Answered<Option<u8>, VaricodeEncoder>;
 
 // How many zeros come before a word or a closing.
 fn gap_len(first: bool) -> usize
@@ -39,41 +30,17 @@ fn gap_len(first: bool) -> usize
     if first { 0 } else { 2 }
 }
 
-// Whether a gap and n bits more fit behind as many as there are. No sum is made that could wrap.
-fn fits(count: usize, zeros: usize, n: usize) -> bool
-    requires { count ≤ bit_room }
-    ensures { result ≡ leb (count + (zeros + n)) bit_room }
-{
-    let room = queue::BITS - count;
-    if room < zeros {
-        return false;
-    }
-    if n <= room - zeros {
-        return true;
-    }
-    false
-}
-
 fn done(pending: BitQueue, first: bool) -> Wrote
     ensures { Accepts pending first result }
 {
     Wrote {
-        answer: Put::Done,
-        encoder: VaricodeEncoder { pending, first },
-    }
-}
-
-// A refusal: the writer as it came.
-fn refused(encoder: VaricodeEncoder, number: u8) -> Wrote
-    ensures { Refuses number encoder result }
-{
-    Wrote {
-        answer: refusal::not_done(number),
-        encoder,
+        answer: Ok(()),
+        coder: VaricodeEncoder { pending, first },
     }
 }
 
 impl VaricodeEncoder {
+    #[tactic(auto, unfolding(crate::specs::Writer::fresh_writer))]
     pub fn new() -> VaricodeEncoder
         ensures { writer result ≡ fresh_writer }
     {
@@ -87,13 +54,10 @@ impl VaricodeEncoder {
     pub fn push_preamble(self, n: usize) -> Wrote
         ensures { Puts self (opening n) result }
     {
-        let pending = self.pending;
-        let q = pending.read();
-        if fits(q.count, 0, n) {
-            let zeros = q.put_run(0, n);
-            return done(zeros, true);
+        match self.spaced(0, n) {
+            Ok(q) => done(q.put_run(0, n), true),
+            Err(r) => self.refused(r),
         }
-        refused(self, refusal::QUEUE_FULL)
     }
 
     // A byte's word, after a gap unless it is the first. A byte of 128 or above has no word of its own, and is refused
@@ -103,55 +67,55 @@ impl VaricodeEncoder {
         ensures { Puts self (byte b) result }
     {
         if b >= 128 {
-            return refused(self, refusal::BAD_BYTE);
+            return self.refused(Refusal::BadByte);
         }
         let word = varicode_words::varicode_encode(b);
-        let zeros = gap_len(self.first);
-        let pending = self.pending;
-        let q = pending.read();
-        if fits(q.count, zeros, word.len as usize) {
-            let spaced = q.put_run(0, zeros);
-            let whole = spaced.put_word(word.bits, word.len);
-            return done(whole, false);
+        match self.spaced(gap_len(self.first), word.len as usize) {
+            Ok(q) => done(q.put_word(word.bits, word.len), false),
+            Err(r) => self.refused(r),
         }
-        refused(self, refusal::QUEUE_FULL)
     }
 
     // A closing: n ones, after a gap if a byte was written.
     pub fn push_postamble(self, n: usize) -> Wrote
         ensures { Puts self (closing n) result }
     {
-        let zeros = gap_len(self.first);
-        let pending = self.pending;
-        let q = pending.read();
-        if fits(q.count, zeros, n) {
-            let spaced = q.put_run(0, zeros);
-            let ones = spaced.put_run(1, n);
-            return done(ones, self.first);
+        match self.spaced(gap_len(self.first), n) {
+            Ok(q) => done(q.put_run(1, n), self.first),
+            Err(r) => self.refused(r),
         }
-        refused(self, refusal::QUEUE_FULL)
+    }
+
+    // The bits that are pending, and so many zeros behind them, where n bits more fit too. No sum is made that could
+    // wrap.
+    fn spaced(self, zeros: usize, n: usize) -> Result<BitQueue, Refusal>
+        ensures { Spaces (writer self) zeros n result }
+    {
+        let q = self.pending.read();
+        if q.count.saturating_add(zeros).saturating_add(n) > queue::BITS {
+            return Err(Refusal::QueueFull);
+        }
+        Ok(q.put_run(0, zeros))
+    }
+
+    // A refusal: the writer as it came.
+    fn refused(self, r: Refusal) -> Wrote
+        ensures { Refuses r self result }
+    {
+        Wrote {
+            answer: Err(r),
+            coder: self,
+        }
     }
 
     // The next bit, taken out.
-    #[tactic(auto, unfolding(queue::specs::Take::taken, queue::specs::Take::left))]
     pub fn next_bit(self) -> NextBit
         ensures { GivesBit self result }
     {
-        let pending = self.pending;
-        let q = pending.read();
-        if q.count == 0 {
-            return NextBit {
-                answer: Taken::Nothing,
-                encoder: self,
-            };
-        }
-        let rest = q.rest();
+        let (answer, pending) = self.pending.take();
         NextBit {
-            answer: Taken::One(q.front()),
-            encoder: VaricodeEncoder {
-                pending: rest,
-                first: self.first,
-            },
+            answer,
+            coder: VaricodeEncoder { pending, ..self },
         }
     }
 }

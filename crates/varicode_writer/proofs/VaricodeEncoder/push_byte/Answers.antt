@@ -2,41 +2,36 @@
 use mathlib.Core.Path.{sym, ap₂, ◌∙◌}
 use Prim.Native.Nat.{◌+◌}
 use native.Mathlib.Omega.{arith}
+use borrow.Author.Rules.{rules}
+use Rattle.queue.specs.Inner.{WordRoom}
+use Rattle.queue.specs.Records.{ring}
+use Rattle.queue.specs.Ring.{bit_room}
 use Rattle.varicode_words.proofs.Facts.{any_word_length}
 use Rattle.varicode_writer.specs.Writer.{byte, first_after}
-use Rattle.varicode_writer.proofs.Puts.{low_byte_not_high}
-use Rattle.varicode_writer.proofs.Puts.{rest_room, puts_refused, puts_done, length-byte, byte_put}
+use Rattle.varicode_writer.proofs.Puts.{low_byte_not_high, puts_refused, puts_done, length-byte, byte_split}
 use Rattle.varicode_writer.proofs.VaricodeEncoder.push_byte.Goals as goal
 
-pub put_word-whole-requires : goal.put_word-whole-requires
-put_word-whole-requires c =
-    let len = c.varicode_encode-word.result.len in
+pub put_word-requires : goal.put_word-requires
+put_word-requires c =
     let (some, short) = any_word_length c.args.b in
-    record {
-      few = omega (arith, c.varicode_encode-word.ensures.len, short);
-      room =
-          rest_room _ _ c.gap_len-zeros.result len _ c.read-q.ensures c.fits.ensures c.if-fits.true _
-          c.put_run-spaced.ensures;
-    }
+    let room : WordRoom bit_room (ring c.in-Ok.q) c.varicode_encode-word.result.len =
+    record { few = omega (arith, c.varicode_encode-word.ensures.len, short); room = c.in-Ok.ensures.room } in
+    search rules
 
-pub returns-then-fits : goal.returns-then-fits
+pub returns-in-Ok : goal.returns-in-Ok
 unfolding first_after
-returns-then-fits c =
+returns-in-Ok c =
     let args = c.args in
     let word = c.varicode_encode-word in
-    puts_done args.self (byte args.b) _ _ c.gap_len-zeros.result word.result.len _ c.read-q.ensures
-    (low_byte_not_high args.b (omega arith))
-    (length-byte args.self.first args.b ∙ ap₂ ◌+◌ (sym c.gap_len-zeros.ensures) (sym word.ensures.len))
-    c.fits.ensures c.if-fits.true _
-    (byte_put args.self.first args.b _ _ _ _ _ _ c.gap_len-zeros.ensures word.ensures.bits word.ensures.len
-    c.put_run-spaced.ensures c.put_word-whole.ensures)
-    c.done.ensures
+    puts_done args.self (byte args.b) _ (low_byte_not_high args.b (omega arith))
+    (length-byte args.self.first args.b ∙ ap₂ ◌+◌ (sym c.gap_len.ensures) (sym word.ensures.len))
+    c.in-Ok.ensures _ (byte_split args.self.first args.b _ _ _ c.gap_len.ensures word.ensures.bits word.ensures.len)
+    c.put_word.ensures c.done.ensures
 
-pub returns : goal.returns
-returns c =
+pub returns-in-Err : goal.returns-in-Err
+returns-in-Err c =
     let args = c.args in
     let word = c.varicode_encode-word in
-    puts_refused args.self (byte args.b) _ _ c.gap_len-zeros.result word.result.len _ c.read-q.ensures
-    (low_byte_not_high args.b (omega arith))
-    (length-byte args.self.first args.b ∙ ap₂ ◌+◌ (sym c.gap_len-zeros.ensures) (sym word.ensures.len))
-    c.fits.ensures c.if-fits.false c.refused-2.ensures
+    puts_refused args.self (byte args.b) _ (low_byte_not_high args.b (omega arith))
+    (length-byte args.self.first args.b ∙ ap₂ ◌+◌ (sym c.gap_len.ensures) (sym word.ensures.len))
+    _ c.in-Err.ensures c.refused-in-Err.ensures
