@@ -10,7 +10,8 @@ ghost use Rattle.trellis.specs.Places.{filled};
 ghost use Rattle.forward.specs.Inner.{Selects, KeptFinite, Runnable, Runs};
 ghost use Rattle.forward.specs.Sums.{value_of};
 
-use butterflies::largest::{MARK, butterfly, signed};
+use butterflies::butterfly;
+use butterflies::largest::{Largest, MARK, signed};
 use trellis::{ConvCode, KeepPattern};
 
 // One step that reads a and b: the new metrics go to the front of next, the survivors to the front of row.
@@ -37,7 +38,7 @@ fn step(
         let x = signed(c0[n], a);
         let y = signed(c1[n], b);
         let even = 2 * n;
-        let w = butterfly(pm[even], pm[even + 1], s, x + y, -x - y);
+        let w = butterfly::<Largest>(pm[even], pm[even + 1], s, x + y, -x - y);
         let low = w.low;
         let high = w.high;
         next[n] = low.met;

@@ -15,7 +15,7 @@ use Rattle.best_path.specs.Path.{Total, wholes}
 use Rattle.correlation.specs.Whole.{whole, exactly}
 use Rattle.correlation.proofs.Sides.{Lawful}
 use Rattle.correlation.proofs.Turn.{Turns, turns_start, turns_go_on, turns_end}
-use Rattle.signed_butterflies.specs.declared.Wing.{Wing}
+use Rattle.best_path.specs.declared.pair.Wing.{Wing}
 use Rattle.signed_butterflies.specs.Held.{side, Near, Turned, cell_of, total_of}
 use Rattle.signed_butterflies.proofs.Words.{back, as_held}
 use Rattle.trellis.specs.declared.ConvCode.{ConvCode}
@@ -104,7 +104,7 @@ module _
     (now : TurnsHeld half c0 c1 a b pm old old_row next row s n) where
   -- a turn, by what it says of the metrics as they were handed over
   module _
-      (h : n < half) (long : 2 * half ≤ length old) {w : Wing}
+      (h : n < half) (long : 2 * half ≤ length old) {w : Wing ℤ}
       (fits0 : SFits w32 (get_or pm (2 * n) (pos 0))) (fits1 : SFits w32 (get_or pm (2 * n + 1) (pos 0)))
       (turned : Turned (get_or c0 n 0) (get_or c1 n 0) a b (to_z w32 (of_z w32 (get_or pm (2 * n) (pos 0))))
       (to_z w32 (of_z w32 (get_or pm (2 * n + 1) (pos 0)))) s w)
