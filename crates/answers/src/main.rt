@@ -6,19 +6,22 @@
 // is no call is answered by `no call`, and one that is longer than the room for it by `too long`.
 #![tactic(auto)]
 
-ghost use Rattle.std.specs.Prelude.{◌≡◌, ◌≤◌, ◌<◌, length, take, IfOk, OnErr};
+ghost use Rattle.std.specs.Prelude.{◌≤◌, ◌<◌, length, IfOk};
 
 mod blocks;
 mod stream;
 mod varicodes;
 
-use call_lines::fields::find;
+use call_lines::print::Printer;
 use call_lines::shapes::is_call;
 use std::io;
 use std::io::{Read, Write};
 
 // What stands in place of the front of a line that is too long.
 const CUT: u8 = 0;
+
+// The room has a line of 16,384 symbols, digit by digit.
+const ROOM: usize = 266240;
 
 // The call that a letter names.
 fn call<W: Write>(to: &mut W, letter: u8, line: &[u8]) -> io::Result<()> {
@@ -41,120 +44,59 @@ fn call<W: Write>(to: &mut W, letter: u8, line: &[u8]) -> io::Result<()> {
     }
 }
 
-// What a line that is no comment is answered by.
-fn answer_call<W: Write>(to: &mut W, line: &[u8]) -> io::Result<()>
-    requires { 0 < length line.now }
-{
-    let letter = line[0];
-    if letter == CUT {
-        return to.write_all(b"too long");
-    }
-    if is_call(line) {
-        to.write_all(&line[0..1])?;
-        return call(to, letter, line);
-    }
-    to.write_all(b"no call")
-}
-
 // One line, without its line feed.
 fn answer<W: Write>(to: &mut W, line: &[u8]) -> io::Result<()> {
-    if line.len() > 0 {
-        if line[0] != b'#' {
-            answer_call(to, line)?;
+    match line {
+        [] | [b'#', ..] => {}
+        [CUT, ..] => to.write_all(b"too long")?,
+        [letter, ..] if is_call(line) => {
+            to.write_all(&line[..1])?;
+            call(to, *letter, line)?;
         }
+        _ => to.write_all(b"no call")?,
     }
     to.write_all(b"\n")
 }
 
-// Each whole line of a text. Answers where the last one ends.
-fn answers<W: Write>(to: &mut W, text: &[u8]) -> io::Result<usize>
-    ensures { IfOk result (λ n. n ≤ length text.now) }
+// Each whole line of a text. Answers how many bytes are left behind them: the front of a line.
+fn answer_lines<W: Write>(to: &mut W, text: &[u8]) -> io::Result<usize>
+    ensures { IfOk result (λ left. left ≤ length text.now) }
 {
-    let mut at = 0;
-    while at < text.len() {
-        let end = at + find(&text[at..], b'\n');
-        if end == text.len() {
-            return Ok(at);
-        }
-        answer(to, &text[at..end])?;
-        at = end + 1;
+    let mut rest = text;
+    while let Some(end) = rest.iter().position(|b| *b == b'\n') {
+        answer(to, &rest[..end])?;
+        rest = &rest[end + 1..];
     }
-    Ok(at)
+    Ok(rest.len())
 }
 
-// Moves what stands from `from` up to `to` to the front.
-fn move_down(text: &mut [u8], from: usize, to: usize)
-    requires { (from ≤ to) × (to ≤ length text.old) }
-{
-    for i in from..to {
-        text[i - from] = text[i];
-    }
-}
-
-// Reads once, behind the kept bytes, and answers how many bytes there are then.
-fn read_more<R: Read>(from: &mut R, text: &mut [u8], kept: usize) -> io::Result<usize>
-    requires { kept ≤ length text.old }
-    ensures within { IfOk result (λ n. (kept ≤ n) × (n ≤ length text.new)) }
-    ensures keeps { take kept text.new ≡ take kept text.old }
-{
-    let got = from.read(&mut text[kept..])?;
-    Ok(kept + got)
-}
-
-// A line's front that fills all the room is dropped, but for a mark of it.
-fn cut(text: &mut [u8], kept: usize) -> usize
-    requires { (1 < length text.old) × (kept ≤ length text.old) }
-    ensures { result ≤ length text.new }
-{
-    if kept == text.len() {
-        mark(text);
-        return 1;
-    }
-    kept
-}
-
-fn mark(text: &mut [u8])
-    requires { 0 < length text.old }
-{
-    text[0] = CUT;
-}
-
-// Answers the whole lines at the front of a text, and keeps the rest: answers how much that is.
-fn keep_rest<W: Write>(to: &mut W, text: &mut [u8], end: usize) -> io::Result<usize>
-    requires { (1 < length text.old) × (end ≤ length text.old) }
-    ensures within { IfOk result (λ n. n ≤ length text.new) }
-    ensures err { OnErr result (text.new ≡ text.old) }
-{
-    let used = answers(to, &text[0..end])?;
-    move_down(text, used, end);
-    Ok(cut(text, end - used))
-}
-
-// The last line, where no line feed ends it.
-fn answer_rest<W: Write>(to: &mut W, rest: &[u8]) -> io::Result<()> {
-    if rest.len() > 0 {
-        answer(to, rest)?;
-    }
-    Ok(())
-}
-
-// Reads to the end of the input. Nothing says that an input ends, so the loop has as many turns as no run uses up.
-fn answer_all<R: Read, W: Write>(from: &mut R, to: &mut W, text: &mut [u8]) -> io::Result<()>
-    requires { 1 < length text.old }
-{
+// Reads to the end of the input, and answers each line. Nothing says that an input ends, so the loop has as many turns
+// as no run uses up.
+fn answer_all<R: Read, W: Write>(from: &mut R, to: &mut W) -> io::Result<()> {
+    let mut text = [0; ROOM];
     let mut kept = 0;
     for _ in 0..u64::MAX {
-        let end = read_more(from, text, kept)?;
+        let end = kept + from.read(&mut text[kept..])?;
         if end == kept {
-            return answer_rest(to, &text[0..kept]);
+            break;
         }
-        kept = keep_rest(to, text, end)?;
+        let left = answer_lines(to, &text[..end])?;
+        to.flush()?;
+        text.copy_within(end - left..end, 0);
+        kept = left;
+        // A line's front that fills all the room is dropped, but for a mark of it.
+        if kept == ROOM {
+            text[0] = CUT;
+            kept = 1;
+        }
     }
-    Ok(())
+    // The last line, where no line feed ends it.
+    if kept > 0 {
+        answer(to, &text[..kept])?;
+    }
+    to.flush()
 }
 
-// The room has a line of 16,384 symbols, digit by digit.
 fn main(rt: HostRuntime) -> io::Result<()> {
-    let mut space = [0u8; 266240];
-    answer_all(&mut rt.stdin(), &mut rt.stdout(), &mut space)
+    answer_all(&mut rt.stdin(), &mut Printer::new(rt.stdout()))
 }

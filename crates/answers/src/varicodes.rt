@@ -1,8 +1,8 @@
 // The calls of Varicode: its words, and the writer and the reader.
 ghost use Rattle.std.specs.Prelude.{◌<◌};
 
-use call_lines::fields::{SHORT, byte, field, fill, lent, number, room, start_of};
-use call_lines::print::{TEXT, print_bytes, print_number, put_number, write_front};
+use call_lines::fields::{SHORT, byte, field, fill, lent, number, room};
+use call_lines::print::{print_bytes, print_number};
 use queue::Queue;
 use refusal::{Refusal, refused_number};
 use std::io;
@@ -53,7 +53,7 @@ pub fn write<W: Write>(to: &mut W, line: &[u8]) -> io::Result<()> {
         },
         decoder: VaricodeDecoder::new(),
     };
-    let after = steps(to, &line[start_of(line, 5)..], coders)?;
+    let after = steps(to, line, 5, coders)?;
     print_writer(to, after.encoder)
 }
 
@@ -69,7 +69,7 @@ pub fn read<W: Write>(to: &mut W, line: &[u8]) -> io::Result<()> {
             chars: queue_at(line, 5),
         },
     };
-    let after = steps(to, &line[start_of(line, 8)..], coders)?;
+    let after = steps(to, line, 8, coders)?;
     print_reader(to, after.decoder)
 }
 
@@ -86,10 +86,10 @@ fn queue_at<const ROOM: usize>(line: &[u8], place: usize) -> Queue<ROOM>
     }
 }
 
-// A line's steps, one after the other.
-fn steps<W: Write>(to: &mut W, texts: &[u8], start: Coders) -> io::Result<Coders> {
+// The steps from a place of the line on, one after the other.
+fn steps<W: Write>(to: &mut W, line: &[u8], from: usize, start: Coders) -> io::Result<Coders> {
     let mut coders = start;
-    for text in texts.split(|b| *b == b' ') {
+    for text in line.split(|b| *b == b' ').skip(from) {
         coders = step(to, coders, text)?;
     }
     Ok(coders)
@@ -101,7 +101,7 @@ fn step<W: Write>(to: &mut W, coders: Coders, text: &[u8]) -> io::Result<Coders>
     let Some((&letter, rest)) = text.split_first() else {
         return Ok(coders);
     };
-    let mut values = lent();
+    let mut values: [u8; SHORT] = lent();
     match letter {
         b'b' | b'i' => {
             let n = fill(rest, &mut values);
@@ -118,14 +118,11 @@ fn step<W: Write>(to: &mut W, coders: Coders, text: &[u8]) -> io::Result<Coders>
 // A call for each value, and an answer printed for each. What takes out needs no value.
 fn calls<W: Write>(to: &mut W, start: Coders, letter: u8, values: &[u8]) -> io::Result<Coders> {
     let mut coders = start;
-    let mut text = [0u8; TEXT];
-    let mut at = 0;
     for &value in values {
         let called = call(coders, letter, value);
-        at = put_number(to, &mut text, at, called.answer)?;
+        print_number(to, called.answer, 1)?;
         coders = called.coders;
     }
-    write_front(to, &text, at)?;
     Ok(coders)
 }
 

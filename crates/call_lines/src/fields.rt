@@ -1,7 +1,7 @@
 // A line's fields, and the numbers and bytes that they spell in lower-case hex.
 //
 // Bytes are two digits each, or `-` for none. `(PIECE*COUNT)` among them is a piece again and again, to COUNT bytes.
-ghost use Rattle.std.specs.Prelude.{◌≡◌, ◌≤◌, ◌<◌, length};
+ghost use Rattle.std.specs.Prelude.{◌≡◌, ◌≤◌, ◌<◌, length, IfSome};
 
 // The most bytes of info, of bits and of an output: 16,384 info bits make 32,780 coded ones.
 pub const SHORT: usize = 32800;
@@ -10,96 +10,43 @@ pub const SHORT: usize = 32800;
 // 262,208 at K5.
 pub const LONG: usize = 262528;
 
-// What a text's size is where it spells no bytes, or more than LONG.
-pub const NO_BYTES: usize = 262529;
-
 // What every lent byte is before a call.
 const BEFORE: u8 = 0xA5;
 
 // Room for bytes. The caller knows the length alone, which is proved sooner than with the bytes in sight.
-pub fn lent() -> [u8; SHORT]
-    ensures { length result ≡ 32800 }
+pub fn lent<const ROOM: usize>() -> [u8; ROOM]
+    ensures { length result ≡ ROOM }
 {
-    [BEFORE; SHORT]
+    [BEFORE; ROOM]
 }
 
-pub fn lent_long() -> [u8; LONG]
-    ensures { length result ≡ 262528 }
-{
-    [BEFORE; LONG]
-}
-
-// The index of the first byte of `text` that equals `b`, or the length where there is none.
-pub fn find(text: &[u8], b: u8) -> usize
-    ensures { result ≤ length text.now }
-{
-    for i in 0..text.len() {
-        if text[i] == b {
-            return i;
-        }
-    }
-    text.len()
-}
-
-// Where the field after the one at `at` begins; the line's end where there is none.
-fn next_field(line: &[u8], at: usize) -> usize
-    requires { at ≤ length line.now }
-    ensures { result ≤ length line.now }
-{
-    let end = at + find(&line[at..], b' ');
-    if end < line.len() { end + 1 } else { end }
-}
-
-// Where the field at a place begins, from 0 on; the line's end where there are fewer.
-pub fn start_of(line: &[u8], place: usize) -> usize
-    ensures { result ≤ length line.now }
-{
-    let mut at = 0;
-    for _ in 0..place {
-        at = next_field(line, at);
-    }
-    at
-}
-
-// The field at a place; empty where there are fewer.
+// The field at a place, from 0 on; empty where there are fewer.
 pub fn field(line: &[u8], place: usize) -> &[u8] {
-    let at = start_of(line, place);
-    let tail = &line[at..];
-    let end = find(tail, b' ');
-    &tail[0..end]
+    line.split(|b| *b == b' ').nth(place).unwrap_or(&[])
 }
 
-// The value of a hex digit in lower case, and 16 for any other byte.
-fn digit(c: u8) -> u8
-    ensures { result ≤ 16 }
+// The value of a hex digit in lower case: `char::to_digit` takes those in upper case too.
+fn digit(c: u8) -> Option<u8>
+    ensures { IfSome result (λ d. d < 16) }
 {
     match c {
-        b'0'..=b'9' => c - b'0',
-        b'a'..=b'f' => c - b'a' + 10,
-        _ => 16,
+        b'0'..=b'9' => Some(c - b'0'),
+        b'a'..=b'f' => Some(c - b'a' + 10),
+        _ => None,
     }
 }
 
-// Whether a text is one to `most` digits.
-pub fn is_number(text: &[u8], most: usize) -> bool {
-    if text.len() > most {
-        return false;
+// The number that one to `most` digits spell, and no more than sixteen.
+pub fn parse(text: &[u8], most: usize) -> Option<u64> {
+    if text.is_empty() || most.min(16) < text.len() {
+        return None;
     }
-    for i in 0..text.len() {
-        if digit(text[i]) == 16 {
-            return false;
-        }
-    }
-    text.len() > 0
+    text.iter().try_fold(0, |value: u64, c| Some(value << 4 | u64::from(digit(*c)?)))
 }
 
-// The number that a text's last sixteen digits spell.
+// The number that a field spells, 0 where it spells none.
 pub fn number(text: &[u8]) -> u64 {
-    let mut value: u64 = 0;
-    for i in 0..text.len() {
-        value = value % 0x1000_0000_0000_0000 * 16 + (digit(text[i]) % 16) as u64;
-    }
-    value
+    parse(text, 16).unwrap_or(0)
 }
 
 pub fn byte(text: &[u8]) -> u8 {
@@ -110,236 +57,99 @@ pub fn byte(text: &[u8]) -> u8 {
 pub fn room(text: &[u8], most: usize) -> usize
     ensures { result ≤ most }
 {
-    lesser(number(text) as usize, most)
+    (number(text) as usize).min(most)
 }
 
-fn lesser(a: usize, b: usize) -> usize
-    ensures { (result ≤ a) × (result ≤ b) }
+// What stands before the first such byte, and what behind it.
+fn split_once(text: &[u8], at: u8) -> Option<(&[u8], &[u8])> {
+    let place = text.iter().position(|b| *b == at)?;
+    Some((&text[..place], &text[place + 1..]))
+}
+
+// Puts bytes of two digits each into a room, from `start` on and as far as it goes, and answers where they end.
+fn read_pairs(text: &[u8], into: &mut [u8], start: usize) -> Option<usize>
+    ensures { IfSome result (λ end. start ≤ end) }
 {
-    if a < b { a } else { b }
-}
-
-// How far a text of bytes is read: up to the digit at `at` it has `count` bytes. The last piece begins at byte `piece`,
-// and is not closed yet where `open` says so.
-#[derive(Clone, Copy)]
-struct Read {
-    at: usize,
-    count: usize,
-    piece: usize,
-    open: bool,
-}
-
-// A text that spells no bytes, or too many: there is no more to read.
-fn unread(text: &[u8]) -> Read
-    ensures { length text.now ≤ result.at }
-{
-    Read {
-        at: text.len(),
-        count: NO_BYTES,
-        piece: 0,
-        open: false,
-    }
-}
-
-// Two digits: one byte more.
-fn read_byte(text: &[u8], from: Read, into: &mut [u8]) -> Read
-    requires { from.at < length text.now }
-    ensures { from.at < result.at }
-{
-    let at = from.at;
-    let count = from.count;
-    if text.len() - at < 2 {
-        return unread(text);
-    }
-    let high = digit(text[at]);
-    let low = digit(text[at + 1]);
-    if high == 16 {
-        return unread(text);
-    }
-    if low == 16 {
-        return unread(text);
-    }
-    if count >= LONG {
-        return unread(text);
-    }
-    store(into, count, 16 * high + low);
-    Read {
-        at: at + 2,
-        count: count + 1,
-        piece: from.piece,
-        open: from.open,
-    }
-}
-
-// Sets a byte, where there is room for it.
-fn store(into: &mut [u8], at: usize, b: u8) {
-    if at < into.len() {
-        into[at] = b;
-    }
-}
-
-// `(`: a piece begins here.
-fn open_piece(text: &[u8], from: Read) -> Read
-    requires { from.at < length text.now }
-    ensures { from.at < result.at }
-{
-    if from.open {
-        return unread(text);
-    }
-    Read {
-        at: from.at + 1,
-        count: from.count,
-        piece: from.count,
-        open: true,
-    }
-}
-
-// `*COUNT)`: the piece again and again, to so many bytes.
-fn close_piece(text: &[u8], from: Read, into: &mut [u8]) -> Read
-    requires { from.at < length text.now }
-    ensures { from.at < result.at }
-{
-    let start = from.at + 1;
-    let tail = &text[start..];
-    let width = find(tail, b')');
-    if width == tail.len() {
-        return unread(text);
-    }
-    let count = from.count;
-    let piece = from.piece;
-    let total = repeated(from, &tail[0..width]);
-    if total == 0 {
-        return unread(text);
-    }
-    if piece >= count {
-        return unread(text);
-    }
-    repeat(into, count - piece, count, total);
-    Read {
-        at: start + width + 1,
-        count: total,
-        piece,
-        open: false,
-    }
-}
-
-// How many bytes there are when the open piece is repeated, or 0 where it can not be: to at least its own length,
-// and within the room.
-fn repeated(from: Read, digits: &[u8]) -> usize {
-    let piece = from.piece;
-    if !from.open {
-        return 0;
-    }
-    if piece > LONG {
-        return 0;
-    }
-    if is_number(digits, 8) {
-        let total = piece + room(digits, NO_BYTES);
-        if total < from.count {
-            return 0;
+    let mut end = start;
+    for pair in text.chunks(2) {
+        let [high, low] = pair else {
+            return None;
+        };
+        if end >= LONG {
+            return None;
         }
-        return if total <= LONG { total } else { 0 };
+        let byte = 16 * digit(*high)? + digit(*low)?;
+        if end < into.len() {
+            into[end] = byte;
+        }
+        end += 1;
     }
-    0
+    Some(end)
 }
 
-// Each byte from `start` up to `end` as the one `len` before it.
-fn repeat(into: &mut [u8], len: usize, start: usize, end: usize)
-    requires { len ≤ start }
+// Repeats the piece from `start` up to `end` until it makes so many bytes, and answers where they end.
+fn repeat(into: &mut [u8], start: usize, end: usize, count: usize) -> Option<usize>
+    requires { start ≤ end }
 {
-    for i in start..end {
-        copy_down(into, i - len, i);
+    let last = start.checked_add(count)?;
+    if start == end || last < end || LONG < last {
+        return None;
     }
+    for i in end..last.min(into.len()) {
+        into[i] = into[i - (end - start)];
+    }
+    Some(last)
 }
 
-// Sets a byte to another before it, where there is room for it.
-fn copy_down(into: &mut [u8], from: usize, to: usize)
-    requires { from ≤ to }
-{
-    if to < into.len() {
-        into[to] = into[from];
+// Puts the bytes that a text spells at the front of a room, as many as it has room for, and answers how many there are.
+fn read_bytes(text: &[u8], into: &mut [u8]) -> Option<usize> {
+    match text {
+        [] => return None,
+        [b'-'] => return Some(0),
+        _ => {}
     }
-}
-
-fn read_next(text: &[u8], from: Read, into: &mut [u8]) -> Read
-    requires { from.at < length text.now }
-    ensures { from.at < result.at }
-{
-    let at = from.at;
-    match text[at] {
-        b'(' => open_piece(text, from),
-        b'*' => close_piece(text, from, into),
-        _ => read_byte(text, from, into),
+    let mut parts = text.split(|b| *b == b'(');
+    let mut count = read_pairs(parts.next()?, into, 0)?;
+    for part in parts {
+        let (piece, behind) = split_once(part, b'*')?;
+        let (digits, plain) = split_once(behind, b')')?;
+        let start = count;
+        let end = read_pairs(piece, into, start)?;
+        let last = repeat(into, start, end, parse(digits, 8)? as usize)?;
+        count = read_pairs(plain, into, last)?;
     }
-}
-
-// Puts the bytes that a text spells at the front of `into`, as many as there is room for, and answers how many it
-// spells.
-fn read_bytes(text: &[u8], into: &mut [u8]) -> usize {
-    let mut read = Read {
-        at: 0,
-        count: 0,
-        piece: 0,
-        open: false,
-    };
-    while read.at < text.len() {
-        read = read_next(text, read, into);
-    }
-    if read.open { NO_BYTES } else { read.count }
+    Some(count)
 }
 
 // How many bytes a text spells.
-pub fn size(text: &[u8]) -> usize {
-    if text.len() == 0 {
-        return NO_BYTES;
-    }
-    if text.len() == 1 {
-        return if text[0] == b'-' { 0 } else { NO_BYTES };
-    }
-    let mut nowhere = [0u8; 1];
-    read_bytes(text, &mut nowhere)
+pub fn size(text: &[u8]) -> Option<usize> {
+    read_bytes(text, &mut [])
 }
 
-// Puts the bytes that a text spells at the front of `into`, and answers how many.
+// Puts the bytes that a text spells at the front of a room, and answers how many.
 pub fn fill(text: &[u8], into: &mut [u8]) -> usize
     ensures { result ≤ length into.new }
 {
-    if text.len() < 2 {
-        return 0;
-    }
-    let count = read_bytes(text, into);
-    lesser(count, into.len())
+    read_bytes(text, into).unwrap_or(0).min(into.len())
 }
 
 // The same of the f32s that the bytes make, four bytes each.
 pub fn fill_floats(text: &[u8], into: &mut [f32]) -> usize
     ensures { result ≤ length into.new }
 {
-    let mut bytes = lent_long();
+    let mut bytes: [u8; LONG] = lent();
     let n = fill(text, &mut bytes);
-    let count = f32s::from_all_bytes(&bytes[0..n], into);
-    lesser(count, into.len())
-}
-
-// The signed byte that a byte makes, in two's complement.
-fn signed(byte: u8) -> i8 {
-    if byte < 128 {
-        return byte as i8;
-    }
-    let below = (255 - byte) as i8;
-    -below - 1
+    f32s::from_all_bytes(&bytes[..n], into).min(into.len())
 }
 
 // The same of the signed bytes that the bytes make.
 pub fn fill_signed(text: &[u8], into: &mut [i8]) -> usize
     ensures { result ≤ length into.new }
 {
-    let mut bytes = lent();
+    let mut bytes: [u8; SHORT] = lent();
     let n = fill(text, &mut bytes);
-    let count = lesser(n, into.len());
-    for i in 0..count {
-        let value = signed(bytes[i]);
-        into[i] = value;
+    for (value, byte) in into.iter_mut().zip(&bytes[..n]) {
+        *value = byte.cast_signed();
     }
-    count
+    n.min(into.len())
 }

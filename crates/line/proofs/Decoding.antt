@@ -1,9 +1,9 @@
 -- The line's answer: its own refusals first, then the decoder's, of which those of a short output and of short scratch
 -- never come. Assumes nothing.
 use mathlib.Core.Bool.{true, false, true≢false}
-use mathlib.Core.List.{List, []}
-use mathlib.Core.Path.{◌≡◌, refl, sym, ap, ◌∙◌}
-use Prim.Native.Nat.{ℕ, ◌-◌, ◌≤◌}
+use mathlib.Core.List.{List, [], ◌∷◌}
+use mathlib.Core.Path.{◌≡◌, sym, ap, ◌∙◌}
+use Prim.Native.Nat.{ℕ, ◌+◌, ◌-◌, ◌*◌, ◌≤◌}
 use native.Mathlib.Decide.{dec_lt}
 use native.Mathlib.Nat.{mul-le-mul}
 use native.Mathlib.Omega.{arith}
@@ -12,18 +12,19 @@ use lib.Ieee.{Float}
 use lib.ListN.{length, take, drop, replicate}
 use lib.Pow.{pow_mono}
 use lib.Seq.{take_at}
+use Rattle.std.proofs.lemmas.List.{take_rest}
 use Rattle.correlation.proofs.Lengths.{length-word}
+use Rattle.std.specs.Prelude.{Result, Ok, Err, IsErrAnd}
+use Rattle.refusal.proofs.Told.{handed_on}
+use Rattle.std.specs.Int.{w16, from_le_bytes}
 use Rattle.encoder.specs.Promise.{Decides}
 use Rattle.encoder.proofs.Checks.{choice_refused, choice_passes, choice_passes_wider, choice_few}
 use Rattle.f32s.specs.Single.{all_of_bytes}
 use Rattle.forward.specs.Decode.{word}
 use Rattle.forward.specs.Sums.{soft}
 use Rattle.correlation.specs.Said.{answered}
-use Rattle.f32_answers.specs.Answer.{word_said}
-use Rattle.f32_answers.specs.declared.Decoded.{Decoded}
-use Rattle.f32_answers.specs.declared.Decoded.TheVariants as variants
 use Rattle.readings.specs.Said.{survivors_of, decode_said}
-use Rattle.refusal.specs.Answer.{accepted, refused}
+use Rattle.refusal.specs.Answer.{accepted, refused, answer_said, number_of, place_of}
 use Rattle.refusal.specs.declared.Refusal.{Refusal}
 use Rattle.refusal.specs.Lent.{over, leaves}
 use Rattle.refusal.specs.Limits.{most}
@@ -33,8 +34,11 @@ use Rattle.trellis.specs.Codeword.{steps_of}
 use Rattle.trellis.proofs.Chosen.{code_width}
 use Rattle.line.specs.Line.{most_info, most_survivors, shaped, code_in, rate_in, info_in, readings_in}
 use Rattle.line.specs.Line.{line_said, word_in, line_of, output}
-use Rattle.line.specs.Inner.{refusal_in, refusal_said, RefusalIn}
-use Rattle.text.proofs.Written.{rest_taken}
+use Rattle.line.specs.Inner.{refusal_said}
+
+-- what a `?` hands on is the refusal itself, of which its contract has two parts
+pub passed_on : {A X : Type 0} (r : Result A Refusal) (q : Refusal) → X × IsErrAnd r (λ e. e ≡ q) → r ≡ Err q
+passed_on r q (x, h) = handed_on r q h
 
 -- ---- the shape of the input
 
@@ -57,18 +61,22 @@ output_refused input number place e = rw e
 
 -- ---- the code, the rate and the info count
 
--- a shaped input, and the number of the refusal that its choice earns
-pub record Decided (input : List ℕ) (number : ℕ) : Type 0 where
+-- the low byte first
+pub info_read : (low high : ℕ) → from_le_bytes w16 (low ∷ high ∷ []) ≡ low + 256 * high
+info_read low high = omega arith
+
+-- a shaped input, and what is decided of its choice
+pub record Decided (input : List ℕ) (r : Result (Unit {0}) Refusal) : Type 0 where
   pub is : shaped (length input) ≡ true
-  pub decides : Decides most_info (code_in input) (rate_in input) (info_in input) number
+  pub decides : Decides most_info (code_in input) (rate_in input) (info_in input) r
 
-module _ {input : List ℕ} {number : ℕ} (decided : Decided input number) (h : number ≡ 0 → ⊥) where
-  choice_said : line_said input ≡ refused number 0
-  unfolding line_said
-  choice_said = rw decided.is (choice_refused decided.decides _ h)
+choice_said : {input : List ℕ} {r : Refusal} → Decided input (Err r) → line_said input ≡ refusal_said r
+unfolding line_said
+choice_said decided = rw decided.is (choice_refused decided.decides _)
 
-  pub choice_output : output input ≡ line_of (refused number 0) []
-  choice_output = output_refused input number 0 choice_said
+pub choice_output :
+    {input : List ℕ} {r : Refusal} → Decided input (Err r) → output input ≡ line_of (refusal_said r) []
+choice_output {input} {r} decided = output_refused input (number_of r) (place_of r) (choice_said decided)
 
 -- ---- the decoder
 
@@ -80,58 +88,45 @@ survivors_few code info h =
 
 -- A call of the decoder for a shaped input whose choice passes: with the readings' bytes, room for the most info bits and
 -- scratch for their survivors.
-pub record Called (input bytes : List ℕ) (number : ℕ) (answer : Decoded) : Type 0 where
-  pub choice : Decided input number
-  pub passes : number ≡ 0
+pub record Called (input bytes : List ℕ) (answer : Result Float Refusal) : Type 0 where
+  pub choice : Decided input (Ok tt)
   pub behind : bytes ≡ drop 4 input
   pub says :
-      word_said answer ≡ decode_said (code_in input) (rate_in input) (info_in input) (all_of_bytes bytes) most_info most_survivors
+      answer_said answer ≡ decode_said (code_in input) (rate_in input) (info_in input) (all_of_bytes bytes) most_info most_survivors
 
 -- the same, as the program calls it: with all bytes behind the first four
 pub called_behind :
-    (input : List ℕ) {number : ℕ} {answer : Decoded} →
-    shaped (length input) ≡ true → Decides most_info (code_in input) (rate_in input) (info_in input) number → number ≡ 0 →
-    word_said answer
+    (input : List ℕ) {answer : Result Float Refusal} → Decided input (Ok tt) →
+    answer_said answer
     ≡ decode_said (code_in input) (rate_in input) (info_in input) (all_of_bytes (take (length input - 4) (drop 4 input)))
     most_info most_survivors →
-    Called input (take (length input - 4) (drop 4 input)) number answer
-called_behind input is decides passes says =
-    record {
-      choice = record { is = is; decides = decides };
-      passes = passes;
-      behind = rest_taken input 4 (length input) refl;
-      says = says;
-    }
+    Called input (take (length input - 4) (drop 4 input)) answer
+called_behind input choice says = record { choice = choice; behind = take_rest input 4; says = says }
 
-module _ {input bytes : List ℕ} {number : ℕ} {answer : Decoded} (call : Called input bytes number answer) where
-  pub info_few : info_in input ≤ most_info
-  info_few = choice_few call.choice.decides call.passes
-
+module _ {input bytes : List ℕ} {answer : Result Float Refusal} (call : Called input bytes answer) where
   said_decoded :
       line_said input ≡ decode_said (code_in input) (rate_in input) (info_in input) (all_of_bytes bytes) most_info most_survivors
   unfolding line_said answered
   said_decoded =
+      let few = choice_few call.choice.decides in
       rw (
         call.choice.is,
         call.behind,
-        choice_passes call.choice.decides call.passes _,
-        choice_passes_wider call.choice.decides call.passes most (omega arith) _,
-        le-ltb most_info (info_in input) info_few,
-        le-ltb most_survivors (survivors_of (code_in input) (info_in input)) (survivors_few (code_in input) (info_in input) info_few),
+        choice_passes call.choice.decides _,
+        choice_passes_wider call.choice.decides most (omega arith) _,
+        le-ltb most_info (info_in input) few,
+        le-ltb most_survivors (survivors_of (code_in input) (info_in input)) (survivors_few (code_in input) (info_in input) few),
       )
 
-  said_answer : line_said input ≡ word_said answer
+  said_answer : line_said input ≡ answer_said answer
   said_answer = said_decoded ∙ sym call.says
 
-  pub refused_output :
-      {r found : Refusal} → answer ≡ variants.Refused r → RefusalIn answer found → output input ≡ line_of (refusal_said found) []
-  refused_output e is_in =
-      output_refused input _ _
-      (said_answer ∙ ap word_said e ∙ sym (is_in.same ∙ ap (λ (a : Decoded). refusal_in (word_said a)) e))
+  pub refused_output : {r : Refusal} → answer ≡ Err r → output input ≡ line_of (refusal_said r) []
+  refused_output e = output_refused input _ _ (said_answer ∙ ap answer_said e)
 
-  module _ {score : Float} (e : answer ≡ variants.Word score) where
+  module _ {score : Float} (e : answer ≡ Ok score) where
     said_accepted : line_said input ≡ accepted score
-    said_accepted = said_answer ∙ ap word_said e
+    said_accepted = said_answer ∙ ap answer_said e
 
     -- what the call left in the word's room
     module _

@@ -1,26 +1,18 @@
 -- What the inner functions ask and ensure. Definitions only.
-use Rattle.std.specs.Prelude.{List, ◌≡◌, ℕ, Float}
-use Rattle.f32_answers.specs.Answer.{word_said}
-use Rattle.f32_answers.specs.declared.Decoded.{Decoded}
+use Rattle.std.specs.Prelude.{List, [], ◌≡◌, ℕ, Float, Result, MatchResult}
 use Rattle.refusal.specs.declared.Refusal.{Refusal}
-use Rattle.refusal.specs.Answer.{Said, accepted, refused}
-use Rattle.line.specs.declared.Line.{Line}
-use Rattle.line.specs.Line.{line_of}
-use Rattle.line.specs.Promise.{Prints}
+use Rattle.refusal.specs.Answer.{Said, refused, number_of, place_of}
+use Rattle.line.specs.Line.{line_of, output}
 
 -- what a refusal says
 abbrev pub refusal_said : Refusal → Said Float
-refusal_said r = refused r.number r.place
-
--- the refusal in an answer that has one
-abbrev pub refusal_in : Said Float → Said Float
-refusal_in (accepted score) = refused 0 0
-refusal_in (refused number place) = refused number place
-
--- `refusal_in`: the refusal in an answer that is not a word
-pub record RefusalIn (answer : Decoded) (r : Refusal) : Type 0 where
-  pub same : refusal_said r ≡ refusal_in (word_said answer)
+refusal_said r = refused (number_of r) (place_of r)
 
 -- `refused_line`, `word_line`: the line of an answer
-abbrev pub PrintsAnswer : Said Float → (word : List ℕ) → Line → Type 0
-PrintsAnswer said word l = Prints (line_of said word) l
+abbrev pub PrintsAnswer : Said Float → (word printed : List ℕ) → Type 0
+PrintsAnswer said word printed = printed ≡ line_of said word
+
+-- `decoded_line`: the whole output where the input is accepted, else the refusal whose line is the whole output
+abbrev pub DecodesInput : (input : List ℕ) → Result (List ℕ) Refusal → Type 0
+DecodesInput input r =
+    MatchResult r (λ printed. printed ≡ output input) (λ refusal. output input ≡ line_of (refusal_said refusal) [])

@@ -25,10 +25,6 @@ most_info = 1000
 abbrev pub most_survivors : ℕ
 most_survivors = steps_of k7 most_info * 2 ^ k7.width
 
--- the bytes of a line: the longest has 21 more than info bits
-abbrev pub line_bytes : ℕ
-line_bytes = most_info + 24
-
 -- 4 + 4k bytes, and no more than the most
 abbrev pub shaped : ℕ → Bool
 shaped n = not (ltb n 4) && not (ltb most_bytes n) && eqb (n % 4) 0

@@ -1,20 +1,10 @@
 -- What is written is the whole output for an input, of which the room takes as many bytes as count. Assumes nothing.
 use Rattle.std.proofs.Common.{◌≡◌, ℕ, ◌+◌, ◌≤◌, ◌<◌, inl, inr, Option, None, Some, IfSome, Result, Ok, Err, OnOk, List, [], ◌++◌}
-use Rattle.std.proofs.Common.{length, take, drop, replicate, sym, ap, ◌∙◌, subst, append-nil, arith, eq-or-lt_of_le}
+use Rattle.std.proofs.Common.{length, take, sym, ap, ◌∙◌, subst, append-nil, arith, eq-or-lt_of_le}
 use Rattle.std.proofs.Common.{length-take-le, take_all, take_at}
 use Rattle.std.specs.Io.KnownBytes.{Appends, Consumes, IsAtEnd}
-use Rattle.refusal.specs.Lent.{over}
-use Rattle.line.specs.declared.Line.{Line}
-use Rattle.line.specs.Line.{most_bytes, line_bytes, output}
-use Rattle.line.specs.Promise.{Prints}
+use Rattle.line.specs.Line.{most_bytes, output}
 use Rattle.line.proofs.Cut.{output_of_first_bytes}
-
--- a line's text is what stands at the front of its bytes
-pub printed : (text : List ℕ) (l : Line) → Prints text l → take l.count l.bytes ≡ text
-unfolding over
-printed text l h =
-    ap (λ (b : List ℕ). take l.count b) h.bytes
-    ∙ take_at text (drop (length text) (replicate line_bytes 0)) l.count (sym h.count)
 
 -- ---- what the room takes of an input
 

@@ -9,7 +9,8 @@ use std::io;
 use std::io::{Read, Write};
 
 // Reads until the room is full or the input ends, and answers how many bytes stand at the room's front then. After an
-// error what was read before it stands there.
+// error what was read before it stands there. It is a loop of its own since `read_exact` takes an input's end for an
+// error and does not say what it read before, and `read_to_end` wants a `Vec`, which allocates.
 fn read_full<R: Read>(from: &mut R, space: &mut [u8]) -> io::Result<usize>
     ensures within { IfOk result (λ n. n ≤ length space.new) }
     ensures bytes { IfOk result
@@ -36,10 +37,8 @@ fn answer_input<R: Read, W: Write>(from: &mut R, to: &mut W) -> io::Result<()>
 {
     let mut space = line::room();
     let n = read_full(from, &mut space)?;
-    let l = line::answer(&space[..n]);
-    let bytes = l.bytes;
-    let count = l.count;
-    to.write_all(&bytes[..count])
+    let answer = line::answer(&space[..n]);
+    to.write_all(answer.written())
 }
 
 fn main(rt: HostRuntime) -> io::Result<()> {

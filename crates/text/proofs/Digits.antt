@@ -1,16 +1,16 @@
--- A number's digits, found the last first and put from the end of an array to its front. Assumes nothing.
-use mathlib.Core.Bool.{Bool, true, false, cond}
-use mathlib.Core.List.{List, [], ◌∷◌, ◌++◌, append-nil}
-use mathlib.Core.Path.{◌≡◌, refl, sym, ap, ◌∙◌}
-use Prim.Native.Nat.{ℕ, zero, suc, ◌-◌, ◌/◌, ◌%◌, ◌^◌, ◌≤◌, ◌<◌}
+-- A number's digits: eight hex digits, found the last first and put from the end of an array to its front, and decimal
+-- ones, the last behind those before it. Assumes nothing.
+use Rattle.std.proofs.Common.{◌≡◌, ℕ, zero, suc, ◌/◌, ◌%◌, ◌^◌, ◌≤◌, ◌<◌, List, [], ◌∷◌, ◌++◌, length, drop, set, replicate}
+use Rattle.std.proofs.Common.{Bool, true, false, cond, refl, sym, ap, ◌∙◌, append-nil, length-set, length-append, drop-cons, arith}
+use Rattle.std.proofs.Common.{lit<, lit≤}
+use Rattle.std.proofs.Math.Seq.{drop-set-lt, get_or-set_same, append_snoc}
+use native.Mathlib.Decide.{dec_lt}
 use native.Mathlib.Nat.{pow-suc, div-lt_iff_lt-mul}
-use native.Mathlib.Omega.{arith}
 use borrow.Author.Tests.{lt-ltb, le-ltb}
-use lib.Dec.{ltb, lit<, lit≤}
-use lib.ListN.{length, take, drop, set, replicate, length-set, length-append}
-use lib.Seq.{drop-cons, drop-set-lt, get_or-set_same, append_snoc}
+use lib.Dec.{ltb}
 use Rattle.text.specs.Text.{digit, hex_digits, decimal_digits, decimal}
-use Rattle.text.proofs.Written.{rest_taken}
+
+-- ---- eight hex digits
 
 drop-set : (l : List ℕ) (k d : ℕ) → k < length l → drop k (set l k d) ≡ d ∷ drop (suc k) l
 drop-set l k d h =
@@ -23,8 +23,6 @@ one_put :
     (front ++ (d ∷ [])) ++ drop (suc k) digits ≡ front ++ drop k (set digits k d)
 one_put front digits k d h =
     append_snoc front d (drop (suc k) digits) ∙ ap (λ (l : List ℕ). front ++ l) (sym (drop-set digits k d h))
-
--- ---- eight hex digits
 
 -- the invariant: the first i digits are still to be put, the others stand at their places
 pub record HexLeft (n : ℕ) (digits : List ℕ) (rest i : ℕ) : Type 0 where
@@ -55,62 +53,41 @@ module _ {n : ℕ} {digits : List ℕ} {rest i : ℕ} (so_far : HexLeft n digits
 
 -- ---- a decimal number
 
--- whether one digit is left, or more
-digits_at : (k rest : ℕ) → (b : Bool) → List ℕ
-digits_at k rest b = cond b (digit rest ∷ []) (decimal_digits k (rest / 10) ++ (digit (rest % 10) ∷ []))
+-- whether one digit is enough, or more are needed
+digits_at : (k n : ℕ) → (b : Bool) → List ℕ
+digits_at k n b = cond b (digit n ∷ []) (decimal_digits k (n / 10) ++ (digit (n % 10) ∷ []))
 
--- the invariant: rest's digits are still to be put, up to place i; the others stand behind it
-pub record DecimalLeft (n : ℕ) (digits : List ℕ) (rest i : ℕ) : Type 0 where
-  pub turns : i < 10
-  pub size : length digits ≡ 10
-  pub few : rest < 10 ^ suc i
-  pub whole : decimal n ≡ decimal_digits (suc i) rest ++ drop (suc i) digits
+-- one digit is enough for a number below 10
+one_digit : (k n : ℕ) → n < 10 → decimal_digits (suc k) n ≡ digit n ∷ []
+unfolding decimal_digits digits_at
+one_digit k n h = ap (digits_at k n) (lt-ltb n 10 h)
 
-pub decimal_starts : {n : ℕ} → n < 2 ^ 32 → DecimalLeft n (replicate 10 0) n 9
-decimal_starts {n} h =
-    record { turns = omega arith; size = refl; few = omega arith; whole = sym (append-nil (decimal_digits 10 n)) }
+more_digits : (k n : ℕ) → 10 ≤ n → decimal_digits (suc k) n ≡ decimal_digits k (n / 10) ++ (digit (n % 10) ∷ [])
+unfolding decimal_digits digits_at
+more_digits k n h = ap (digits_at k n) (le-ltb n 10 h)
 
-more_room : (rest i : ℕ) → rest < 10 ^ suc i → 9 < rest → 0 < i
-more_room rest zero h more = absurd (omega arith)
-more_room rest (suc i) h more = omega arith
+fewer_left : (n k : ℕ) → n < 10 ^ suc k → n / 10 < 10 ^ k
+fewer_left n k h = (div-lt_iff_lt-mul (lit< tt)).1 (rw (pow-suc 10 k) at h)
 
-fewer_left : (rest i : ℕ) → rest < 10 ^ suc i → rest / 10 < 10 ^ i
-fewer_left rest i h = (div-lt_iff_lt-mul (lit< tt)).1 (rw (pow-suc 10 i) at h)
+-- where k digits are enough, one more changes nothing
+enough_digits : (k n : ℕ) → n < 10 ^ suc k → decimal_digits (suc k) n ≡ decimal_digits (suc (suc k)) n
+enough_digits zero n h = one_digit zero n h ∙ sym (one_digit 1 n h)
+enough_digits (suc k) n h =
+    elim (dec_lt n 10) [
+      | yes one ↦ one_digit (suc k) n one ∙ sym (one_digit (suc (suc k)) n one)
+      | no more ↦
+          more_digits (suc k) n (omega arith)
+          ∙ ap (λ (front : List ℕ). front ++ (digit (n % 10) ∷ [])) (enough_digits k (n / 10) (fewer_left n (suc k) h))
+          ∙ sym (more_digits (suc (suc k)) n (omega arith))
+    ]
 
-module _ {n : ℕ} {digits : List ℕ} {rest i : ℕ} (so_far : DecimalLeft n digits rest i) where
-  -- more than one digit is left, so there is room for one more
-  pub decimal_room : 9 < rest → 0 < i
-  decimal_room more = more_room rest i so_far.few more
+pub decimal_one : (n : ℕ) → n < 10 → decimal n ≡ digit n ∷ []
+decimal_one n h = one_digit 9 n h
 
-  pub decimal_goes_on :
-      9 < rest → {d : ℕ} → d ≡ digit (rest % 10) → DecimalLeft n (set digits i d) (rest / 10) (i - 1)
-  unfolding decimal_digits digits_at
-  decimal_goes_on more {d} e =
-      let next : i ≡ suc (i - 1) = omega (arith, decimal_room more) in
-      let inside : i < length digits = omega (arith, so_far.turns, so_far.size) in
-      record {
-        turns = omega (arith, so_far.turns);
-        size = length-set digits i d ∙ so_far.size;
-        few = rw next at (fewer_left rest i so_far.few);
-        whole =
-            so_far.whole
-            ∙ ap (λ (b : Bool). digits_at i rest b ++ drop (suc i) digits) (le-ltb rest 10 more)
-            ∙ ap (λ (v : ℕ). (decimal_digits i (rest / 10) ++ (v ∷ [])) ++ drop (suc i) digits) (sym e)
-            ∙ one_put (decimal_digits i (rest / 10)) digits i d inside
-            ∙ ap (λ (j : ℕ). decimal_digits j (rest / 10) ++ drop j (set digits i d)) next;
-      }
-
-  -- one digit is left: with it, the digits from place i on are all
-  pub decimal_ends : rest ≤ 9 → {d : ℕ} → d ≡ digit rest → take (10 - i) (drop i (set digits i d)) ≡ decimal n
-  unfolding decimal_digits digits_at
-  decimal_ends one {d} e =
-      let inside : i < length digits = omega (arith, so_far.turns, so_far.size) in
-      rest_taken (set digits i d) i 10 (sym (length-set digits i d ∙ so_far.size))
-      ∙ sym
-      (so_far.whole
-      ∙ ap (λ (b : Bool). digits_at i rest b ++ drop (suc i) digits) (lt-ltb rest 10 (omega arith))
-      ∙ ap (λ (v : ℕ). v ∷ drop (suc i) digits) (sym e)
-      ∙ sym (drop-set digits i d inside))
+pub decimal_more : (n : ℕ) → 10 ≤ n → n < 2 ^ 32 → decimal n ≡ decimal (n / 10) ++ (digit (n % 10) ∷ [])
+decimal_more n more h =
+    more_digits 9 n (omega arith)
+    ∙ ap (λ (front : List ℕ). front ++ (digit (n % 10) ∷ [])) (enough_digits 8 (n / 10) (omega arith))
 
 -- ---- how many digits
 
@@ -128,3 +105,9 @@ decimal_few zero n = lit≤ tt
 decimal_few (suc k) n =
     let last = digit (n % 10) ∷ [] in
     length-cond (ltb n 10) _ _ (suc k) (omega arith) (omega (arith, length-append (decimal_digits k (n / 10)) last, decimal_few k (n / 10)))
+
+-- a number's digits before the last leave room for it
+pub decimal_room : (n : ℕ) → n < 2 ^ 32 → length (decimal (n / 10)) < 10
+decimal_room n h =
+    let few : length (decimal_digits 9 (n / 10)) ≤ 9 = decimal_few 9 (n / 10) in
+    omega (arith, few, ap length (enough_digits 8 (n / 10) (omega arith)))

@@ -1,5 +1,3 @@
--- Written: a text put element by element. Digits: a number's digits, the last first. Unique: each contract allows one outcome at
--- most.
-pub mod Written
+-- Digits: a number's digits. Unique: each contract allows one outcome at most.
 pub mod Digits
 pub mod Unique

@@ -1,83 +1,127 @@
-// Writing to a line: texts, words and numbers, one behind the other. Each function writes at `at` and
-// answers the place behind what it wrote.
+// A line that is being written: texts, words and numbers, one behind the other, in ASCII.
 #![tactic(auto)]
 
-ghost use Rattle.std.specs.Prelude.{◌≡◌, ◌<◌};
-ghost use Rattle.refusal.specs.Lent.{lent, RoomFor, PutsAt};
-ghost use Rattle.text.specs.Text.{bit_text, word_text, hex_digits, decimal};
-ghost use Rattle.text.specs.Text as text;
+ghost use Rattle.std.specs.Prelude.{◌≡◌, ◌+◌, ◌<◌, ◌≤◌, [], ◌∷◌, ◌++◌, length};
+ghost use Rattle.text.specs.Text.{digit, bit_text, word_text, hex_digits, decimal};
 
-pub fn put(out: &mut [u8], at: usize, text: &[u8]) -> usize
-    requires { RoomFor text.now at out.old }
-    ensures { PutsAt text.now at result (lent out) }
-{
-    for i in 0..text.len() {
-        out[at + i] = text[i];
-    }
-    at + text.len()
+use std::marker::Model;
+
+// At most ROOM bytes. Clauses see those that were written.
+#[derive(Drop)]
+pub struct Line<const ROOM: usize> {
+    bytes: [u8; ROOM],
+    len: usize,
 }
 
-fn bit_text(b: u8) -> u8
-    ensures { result ≡ bit_text b }
-{
-    if b == 0 { b'0' } else { b'1' }
+impl<const ROOM: usize> Model for Line<ROOM> {
+    ghost use Rattle.std.specs.Prelude.{ℕ, ◌≤◌, List, take};
+
+    ghost Value = { List ℕ };
+
+    ghost view = { λ l. take l.len l.bytes };
+
+    ghost invariant = { λ l. l.len ≤ ROOM };
 }
 
-// A word's bits, and - for an empty word.
-pub fn put_word(out: &mut [u8], at: usize, word: &[u8]) -> usize
-    requires { RoomFor (word_text word.now) at out.old }
-    ensures { PutsAt (word_text word.now) at result (lent out) }
+impl<const ROOM: usize> Line<ROOM> {
+    pub fn new() -> Self
+        ensures { result ≡ [] }
+    {
+        Line {
+            bytes: [0; ROOM],
+            len: 0,
+        }
+    }
+
+    // What was written.
+    pub fn written(&self) -> &[u8]
+        ensures text { result.now ≡ self.now }
+        ensures within { length result.now ≤ ROOM }
+    {
+        &self.bytes[..self.len]
+    }
+
+    pub fn put(&mut self, text: &[u8])
+        requires { length self.old + length text.now ≤ ROOM }
+        ensures { self.new ≡ self.old ++ text.now }
+    {
+        let start = self.len;
+        let end = start + text.len();
+        let bytes = &mut self.bytes[..];
+        bytes[start..end].copy_from_slice(text);
+        self.len = end;
+    }
+
+    pub fn put_byte(&mut self, byte: u8)
+        requires { length self.old < ROOM }
+        ensures { self.new ≡ self.old ++ byte ∷ [] }
+    {
+        self.bytes[self.len] = byte;
+        self.len += 1;
+    }
+
+    // A word's bits, and - for an empty word.
+    pub fn put_word(&mut self, word: &[u8])
+        requires { length self.old + length (word_text word.now) ≤ ROOM }
+        ensures { self.new ≡ self.old ++ word_text word.now }
+    {
+        if word.is_empty() {
+            self.put_byte(b'-');
+        } else {
+            for bit in word {
+                self.put_byte(bit_text(*bit));
+            }
+        }
+    }
+
+    // Eight hex digits.
+    pub fn put_hex(&mut self, n: u32)
+        requires { length self.old + length (hex_digits 8 n) ≤ ROOM }
+        ensures { self.new ≡ self.old ++ hex_digits 8 n }
+    {
+        let mut digits = [0; 8];
+        let mut rest = n;
+        for i in (0..8).rev() {
+            digits[i] = digit(rest % 16);
+            rest /= 16;
+        }
+        self.put(&digits);
+    }
+
+    // A number in decimal.
+    pub fn put_decimal(&mut self, n: u32)
+        requires { length self.old + length (decimal n) ≤ ROOM }
+        ensures { self.new ≡ self.old ++ decimal n }
+    {
+        self.put(decimal_digits(n).written());
+    }
+}
+
+// A number's decimal digits.
+#[tactic(auto, using(crate::proofs::Digits::decimal_one, crate::proofs::Digits::decimal_more))]
+fn decimal_digits(n: u32) -> Line<10>
+    ensures { result ≡ decimal n }
 {
-    if word.len() == 0 {
-        return put(out, at, b"-");
-    }
-    for i in 0..word.len() {
-        out[at + i] = bit_text(word[i]);
-    }
-    at + word.len()
+    let mut digits = if n < 10 {
+        Line::new()
+    } else {
+        decimal_digits(n / 10)
+    };
+    digits.put_byte(digit(n % 10));
+    digits
+}
+
+fn bit_text(bit: u8) -> u8
+    ensures { result ≡ bit_text bit }
+{
+    if bit == 0 { b'0' } else { b'1' }
 }
 
 // 0 to 9, then A to F.
 fn digit(d: u32) -> u8
     requires { d < 16 }
-    ensures { result ≡ text.digit d }
+    ensures { result ≡ digit d }
 {
-    if d < 10 {
-        b'0' + d as u8
-    } else {
-        b'A' + (d - 10) as u8
-    }
-}
-
-// Eight hex digits.
-pub fn put_hex(out: &mut [u8], at: usize, n: u32) -> usize
-    requires { RoomFor (hex_digits 8 n) at out.old }
-    ensures { PutsAt (hex_digits 8 n) at result (lent out) }
-{
-    let mut digits = [0; 8];
-    let mut rest = n;
-    let mut i = 8;
-    while 0 < i {
-        i -= 1;
-        digits[i] = digit(rest % 16);
-        rest = rest / 16;
-    }
-    put(out, at, &digits[..])
-}
-
-// A number in decimal.
-pub fn put_decimal(out: &mut [u8], at: usize, n: u32) -> usize
-    requires { RoomFor (decimal n) at out.old }
-    ensures { PutsAt (decimal n) at result (lent out) }
-{
-    let mut digits = [0; 10];
-    let mut rest = n;
-    let mut i = 9;
-    while 9 < rest {
-        digits[i] = digit(rest % 10);
-        rest = rest / 10;
-        i -= 1;
-    }
-    digits[i] = digit(rest);
-    put(out, at, &digits[i..])
+    let d = d as u8;
+    if d < 10 { b'0' + d } else { b'A' + (d - 10) }
 }

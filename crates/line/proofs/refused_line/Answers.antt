@@ -1,30 +1,30 @@
--- `line::refused_line`: five texts, each behind the one before. Assumes nothing.
-use native.Mathlib.Omega.{arith}
+-- `line::refused_line`: two numbers of ten digits at most, and the texts around them, are within the line's room.
+-- Assumes nothing.
+use Rattle.std.proofs.Common.{arith, lit<, length-append}
 use Rattle.text.proofs.Digits.{decimal_few}
-use Rattle.line.proofs.Written.{five_texts}
 use Rattle.line.proofs.refused_line.Goals as goal
 
-pub put_decimal-at_at-requires : goal.put_decimal-at_at-requires
-put_decimal-at_at-requires c =
-    omega (arith, decimal_few 10 c.args.r.number)
+pub put_decimal-requires : goal.put_decimal-requires
+put_decimal-requires c =
+    (lit< tt, simp (c.put.ensures, c.new-line.ensures) (omega (arith, decimal_few 10 c.from.result)))
 
-pub put-place_at-requires : goal.put-place_at-requires
-put-place_at-requires c =
-    omega (arith, decimal_few 10 c.args.r.number)
+pub put-requires-2 : goal.put-requires-2
+put-requires-2 c = (
+  lit< tt,
+  simp (c.put_decimal.ensures, c.put.ensures, c.new-line.ensures, length-append)
+      (omega (arith, decimal_few 10 c.from.result)),
+)
 
-pub put_decimal-end_at-requires : goal.put_decimal-end_at-requires
-put_decimal-end_at-requires c =
-    omega (arith, decimal_few 10 c.args.r.number, decimal_few 10 c.args.r.place)
+pub put_decimal-requires-2 : goal.put_decimal-requires-2
+put_decimal-requires-2 c = (
+  lit< tt,
+  simp (c.put-2.ensures, c.put_decimal.ensures, c.put.ensures, c.new-line.ensures, length-append)
+      (omega (arith, decimal_few 10 c.from.result, decimal_few 10 c.place.result)),
+)
 
-pub put-count-requires : goal.put-count-requires
-put-count-requires c =
-    omega (arith, decimal_few 10 c.args.r.number, decimal_few 10 c.args.r.place)
-
-pub returns : goal.returns
-returns c =
-    five_texts
-    record { puts = c.put-number_at.ensures; size = c.put-number_at.auto.out }
-    record { puts = c.put_decimal-at_at.ensures; size = c.put_decimal-at_at.auto.out }
-    record { puts = c.put-place_at.ensures; size = c.put-place_at.auto.out }
-    record { puts = c.put_decimal-end_at.ensures; size = c.put_decimal-end_at.auto.out }
-    record { puts = c.put-count.ensures; size = c.put-count.auto.out }
+pub put-requires-3 : goal.put-requires-3
+put-requires-3 c = (
+  lit< tt,
+  simp (c.put_decimal-2.ensures, c.put-2.ensures, c.put_decimal.ensures, c.put.ensures, c.new-line.ensures, length-append)
+      (omega (arith, decimal_few 10 c.from.result, decimal_few 10 c.place.result)),
+)

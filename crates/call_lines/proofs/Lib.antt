@@ -1,2 +1,0 @@
--- Digits: a number's hex digits, the last first.
-pub mod Digits

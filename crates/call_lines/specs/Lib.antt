@@ -1,2 +1,0 @@
--- Hex: numbers as answers print them.
-pub mod Hex
