@@ -4,7 +4,7 @@ ghost use Rattle.std.specs.Prelude.{◌<◌};
 use call_lines::fields::{SHORT, byte, field, fill, lent, number, room};
 use call_lines::print::{print_bytes, print_number};
 use queue::Queue;
-use refusal::{Refusal, refused_number};
+use refusal::{Refusal, answer_number};
 use std::io;
 use std::io::Write;
 use varicode_reader::VaricodeDecoder;
@@ -185,18 +185,12 @@ impl Coders {
 
 // 0 for done, or a refusal as a door says it.
 fn put_said(answer: Result<(), Refusal>) -> u64 {
-    match answer {
-        Ok(()) => 0,
-        Err(r) => refused_number(r),
-    }
+    answer_number(answer.map(|()| 0))
 }
 
 // What is taken out, or 100 for nothing.
 fn taken_said(answer: Option<u8>) -> u64 {
-    match answer {
-        Some(b) => b as u64,
-        None => 0x100,
-    }
+    answer.map_or(0x100, u64::from)
 }
 
 // Prints a record: the slots, the head, the count, whether no byte was written.
