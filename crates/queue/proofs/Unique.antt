@@ -1,6 +1,6 @@
 -- Of each function, any two outcomes that its contract allows are equal, of a queue of any room. `Post` is the contract: of what the call
 -- is given, what it returns, and what it leaves in each argument. `ring` tells two queues apart, field by field. Assumes nothing.
-use mathlib.Core.Path.{◌≡◌, sym, ap, ap₂, ◌∙◌}
+use mathlib.Core.Path.{◌≡◌, sym, ap, ◌∙◌}
 use Prim.Native.Nat.{ℕ}
 use Rattle.std.specs.Prelude.{Option, Some, None}
 use Rattle.queue.specs.declared.Queue.{Queue}
@@ -63,9 +63,9 @@ module _ (room : ℕ) (fits : _) (κs : _) where
       (given : _) (r r' : ℕ) (left left' : _) → front.Post room fits κs given r left → front.Post room fits κs given r' left' → r ≡ r'
   front_determined given r r' left left' p q = p ∙ sym q
 
+  -- the element, and the queue that is left
   pub take_determined :
-      (given : _) (r r' : Option ℕ × Queue room) (left left' : _) →
-      take.Post room fits κs given r left → take.Post room fits κs given r' left' → r ≡ r'
+      (given : _) (r r' : Option ℕ) (left left' : _) →
+      take.Post room fits κs given r left → take.Post room fits κs given r' left' → (r ≡ r') × (left.0.now ≡ left'.0.now)
   take_determined given r r' left left' p q =
-      ap₂ (λ (element : Option ℕ) (others : Queue room). (element, others))
-      (taken_told r.0 r'.0 (p.0 ∙ sym q.0)) (ring_told r.1 r'.1 (p.1 ∙ sym q.1))
+      (taken_told r r' (p.0 ∙ sym q.0), ring_told left.0.now left'.0.now (p.1 ∙ sym q.1))

@@ -109,17 +109,19 @@ impl<const ROOM: usize> Queue<ROOM> {
         }
     }
 
-    // The next element, if there is one, and the queue without it.
+    // Takes the next element out, if there is one.
     #[tactic(auto, unfolding(crate::specs::Take::taken, crate::specs::Take::left))]
-    pub fn take(self) -> (Option<u8>, Self)
+    pub fn take(&mut self) -> Option<u8>
         requires { Size ROOM }
-        ensures front { taken_said result.0 ≡ taken ROOM (ring self.entry) }
-        ensures rest { ring result.1 ≡ left ROOM (ring self.entry) }
+        ensures front { taken_said result ≡ taken ROOM (ring self.old) }
+        ensures rest { ring self.new ≡ left ROOM (ring self.old) }
     {
         let q = self.read();
         if q.count == 0 {
-            return (None, self);
+            return None;
         }
-        (Some(q.front()), q.rest())
+        let front = q.front();
+        *self = q.rest();
+        Some(front)
     }
 }

@@ -145,10 +145,8 @@ impl VaricodeDecoder {
     pub fn pop_char(self) -> NextChar
         ensures { GivesChar self result }
     {
-        let (answer, chars) = self.chars.take();
-        NextChar {
-            answer,
-            coder: VaricodeDecoder { chars, ..self },
-        }
+        let mut coder = self;
+        let answer = coder.chars.take();
+        NextChar { answer, coder }
     }
 }

@@ -112,10 +112,8 @@ impl VaricodeEncoder {
     pub fn next_bit(self) -> NextBit
         ensures { GivesBit self result }
     {
-        let (answer, pending) = self.pending.take();
-        NextBit {
-            answer,
-            coder: VaricodeEncoder { pending, ..self },
-        }
+        let mut coder = self;
+        let answer = coder.pending.take();
+        NextBit { answer, coder }
     }
 }
