@@ -13,8 +13,8 @@ pub const BITS: usize = 256;
 
 pub const CHARS: usize = 64;
 
-// An array, a head and a count, and none of the library's queues: nothing allocates, and a record with any head and count
-// is read as one within the array (`read_as`).
+// An array, a head and a count, and none of the library's queues: nothing allocates, and a record with any head and
+// count is read as one within the array (`read_as`).
 #[derive(Clone, Copy)]
 pub struct Queue<const ROOM: usize> {
     pub slots: [u8; ROOM],

@@ -19,7 +19,8 @@ fn decode_readings(
     out: &mut [u8],
     scratch: &mut [u8],
 ) -> Result<f32, Refusal>
-    ensures { Decodes (Says result) code rate info (values_in received.entry.floats.now received.entry.bytes.now) (lent out) (lent scratch) }
+    ensures { let readings = values_in received.entry.floats.now received.entry.bytes.now in
+        Decodes (Says result) code rate info readings (lent out) (lent scratch) }
 {
     let ready = correlation::prepare(code, rate, info, received.count(), out.len(), scratch.len())?;
     match f32_answers::first_bad(received.floats, received.bytes, ready.used) {

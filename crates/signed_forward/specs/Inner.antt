@@ -1,5 +1,5 @@
--- How the decoder holds its metrics: they stand for the totals of the decoder in whole numbers, and no sum overflows; and
--- what it asks of readings. Definitions only.
+-- How the decoder holds its metrics, which stand for the totals of the decoder in whole numbers, so that no sum
+-- overflows; and what it asks of readings. Definitions only.
 use Rattle.std.specs.Prelude.{List, ℕ, ◌*◌, ℤ, pos, negsuc}
 use Rattle.best_path.specs.Path.{Total}
 use Rattle.correlation.specs.Inner as any

@@ -1,5 +1,5 @@
-// The decoding of a block of readings, whatever numbers they are: all steps from state 0, add, compare, select, with the
-// survivors of each step kept, and the way back over these.
+// The decoding of a block of readings, whatever numbers they are: all steps from state 0, add, compare, select, with
+// the survivors of each step kept, and the way back over these.
 #![tactic(auto)]
 
 ghost use Rattle.std.specs.Prelude.{◌≡◌, ◌*◌, ◌^◌, ◌<◌, List, eqb};
@@ -164,7 +164,8 @@ pub fn decode<D: Decoder, R: Readings<D>>(
     scratch: &mut [u8],
 ) -> D::Number
     requires { Decodable D.held code half keep (R.readings readings.now) info out.old scratch.old }
-    ensures { Finds D.held code (keep_of keep) (2 * half) info (R.readings readings.now) result (lent out) (lent scratch) }
+    ensures { Finds D.held code (keep_of keep) (2 * half) info (R.readings readings.now) result
+        (lent out) (lent scratch) }
 {
     let steps = info + code.width;
     let score = forward::<D, R>(code, half, keep, readings, steps, scratch);

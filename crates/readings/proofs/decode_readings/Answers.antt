@@ -14,7 +14,7 @@ use Rattle.readings.proofs.decode_readings.Goals as goal
 pub returns-in_err-ready : goal.returns-in_err-ready
 returns-in_err-ready c =
     let is = rw c.count.ensures at c.in_err-ready.ensures in
-    rw (handed_on c.from_residual.result _ c.from_residual.ensures.1)
+    rw (handed_on c.from_residual.result _ c.from_residual.ensures)
     (both_refused (not_prepared _ _ _ _ _ _ _ _ _ is) refl refl refl)
 
 pub first_bad-requires : goal.first_bad-requires

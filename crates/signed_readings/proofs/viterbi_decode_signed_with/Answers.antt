@@ -13,7 +13,7 @@ use Rattle.signed_readings.proofs.viterbi_decode_signed_with.Goals as goal
 
 pub returns-in_err-ready : goal.returns-in_err-ready
 returns-in_err-ready c =
-    rw (handed_on c.from_residual.result _ c.from_residual.ensures.1)
+    rw (handed_on c.from_residual.result _ c.from_residual.ensures)
     (both_refused (not_prepared _ _ _ _ _ _ _ _ _ c.in_err-ready.ensures) refl refl refl)
 
 pub slice_bounds-first_low-end : goal.slice_bounds-first_low-end
