@@ -5,6 +5,8 @@
 ghost use Rattle.std.specs.Prelude.{cond, ◌++◌, ◌≡◌, ltb, length, drop};
 ghost use Rattle.best_path.specs.Rows.{spelled, Traceable};
 
+pub mod pair;
+
 use trellis::ConvCode;
 
 // The way back over the rows of survivors, from the state `last` after the last step. The inputs of the

@@ -1,3 +1,3 @@
--- Orders: what holds of the two metrics. Unique: each contract allows one outcome at most.
-pub mod Orders
+-- Coded: an order as the code has it. Unique: each contract allows one outcome at most.
+pub mod Coded
 pub mod Unique

@@ -10,7 +10,7 @@ ghost use Rattle.encoder.specs.Promise.{Decides, Measures, Encodes, EncodesPlain
 ghost use Rattle.encoder.specs.Inner.{kept_by, Ready, ReadyAt, Sends};
 
 use refusal::Refusal;
-use trellis::{ConvCode, KeepPattern, Selected};
+use trellis::{Code, ConvCode, KeepPattern, Rate, Selected};
 
 // The input of step t: the lowest bit of its byte, and 0 past the end, which is the zero tail.
 fn input_at(bits: &[u8], t: usize) -> u32
@@ -80,10 +80,10 @@ fn encode_at(code: u8, rate: u8, chosen: Selected, bits: &[u8], steps: usize, ou
 pub fn refused_choice(code: u8, rate: u8, info: usize, limit: usize) -> Result<(), Refusal>
     ensures { Decides limit code rate info result }
 {
-    if trellis::CODES <= code {
+    if Code::try_from(code).is_err() {
         return Err(Refusal::UnknownCode);
     }
-    if trellis::RATES <= rate {
+    if Rate::try_from(rate).is_err() {
         return Err(Refusal::UnknownRate);
     }
     if limit < info {

@@ -1,15 +1,18 @@
 -- The f32s of many bytes, one by one, by themselves and behind others, and the loop that stores them. Assumes nothing.
-use mathlib.Core.List.{List, [], ◌∷◌, ◌++◌}
+use mathlib.Core.List.{List, [], ◌∷◌, ◌++◌, map}
 use mathlib.Core.Path.{◌≡◌, refl, sym, ap, ap₂, ◌∙◌}
-use Prim.Native.Nat.{ℕ, zero, suc, ◌+◌, ◌-◌, ◌*◌, ◌/◌, ◌≤◌, ◌<◌, min}
+use Prim.Native.Nat.{ℕ, zero, suc, ◌+◌, ◌-◌, ◌/◌, ◌≤◌, ◌<◌, min}
 use native.Mathlib.Numerals.{add-one}
 use native.Mathlib.Nat.{zero-add}
 use native.Mathlib.Omega.{arith}
-use lib.Ieee.{Float, nan}
+use lib.Ieee.{Float, nan, binary32, of_bits}
 use lib.ListN.{length, get_or, set, take, drop, length-append, length-take, length-set, get_or-append, get_or-eq_default}
 use lib.Seq.{get_or-append-add, get_or-take, take-length, paste, paste-suc, paste-zero}
-use Rattle.f32s.specs.Single.{of_bytes, all_of_bytes, values_in}
-use Rattle.f32s.specs.Inner.{Fills}
+use Rattle.std.specs.Int.{w32, from_le_bytes}
+use Rattle.std.specs.Simd.{first_chunks}
+use Rattle.std.proofs.lemmas.List.{get_or-map}
+use Rattle.f32s.specs.Single.{joined, of_bytes, all_of_bytes, values_in}
+use Rattle.f32s.specs.Inner.{of_four, Fills}
 
 pub length-all : (bytes : List ℕ) → length (all_of_bytes bytes) ≡ length bytes / 4
 unfolding all_of_bytes
@@ -19,36 +22,35 @@ length-all (b0 ∷ b1 ∷ []) = refl
 length-all (b0 ∷ b1 ∷ b2 ∷ []) = refl
 length-all (b0 ∷ b1 ∷ b2 ∷ b3 ∷ rest) = omega (arith, length-all rest)
 
-abbrev pub value_at : List ℕ → ℕ → Float
-value_at bytes at = of_bytes (get_or bytes at 0) (get_or bytes (at + 1) 0) (get_or bytes (at + 2) 0) (get_or bytes (at + 3) 0)
+-- the library's bits of four bytes, and the definition's
+pub joined_is :
+    (bytes : List ℕ) →
+    from_le_bytes w32 bytes ≡ joined (get_or bytes 0 0) (get_or bytes 1 0) (get_or bytes 2 0) (get_or bytes 3 0)
+joined_is bytes = omega arith
 
-module _ (b0 b1 b2 b3 : ℕ) (rest : List ℕ) where
-  abbrev whole : List ℕ
-  whole = b0 ∷ b1 ∷ b2 ∷ b3 ∷ rest
+abbrev value_at : List ℕ → Float
+value_at bytes = of_bytes (get_or bytes 0 0) (get_or bytes 1 0) (get_or bytes 2 0) (get_or bytes 3 0)
 
-  past_four : (j k : ℕ) → k ≡ suc (suc (suc (suc j))) → get_or whole k 0 ≡ get_or rest j 0
-  past_four j k e = ap (λ (n : ℕ). get_or whole n 0) e
+value_at-is : (bytes : List ℕ) → value_at bytes ≡ of_four bytes
+value_at-is bytes = ap (of_bits binary32) (sym (joined_is bytes))
 
-  later_value : (i : ℕ) → value_at whole (4 * suc i) ≡ value_at rest (4 * i)
-  later_value i =
-      let at = 4 * suc i in
-      let of = 4 * i in
-      rw (
-        past_four of at (omega arith),
-        past_four (of + 1) (at + 1) (omega arith),
-        past_four (of + 2) (at + 2) (omega arith),
-        past_four (of + 3) (at + 3) (omega arith),
-      )
+-- the bytes cut into pieces of four
+abbrev pub fours : List ℕ → List (List ℕ)
+fours bytes = first_chunks 4 (length bytes / 4) bytes
 
--- what a read past the end would give, d, is not seen
-pub value_at-is : (d : Float) (bytes : List ℕ) (i : ℕ) → i < length bytes / 4 → value_at bytes (4 * i) ≡ get_or (all_of_bytes bytes) i d
+pub length-fours : (k : ℕ) (bytes : List ℕ) → length (first_chunks 4 k bytes) ≡ k
+length-fours zero bytes = refl
+length-fours (suc k) bytes = ap suc (length-fours k (drop 4 bytes))
+
+pub all-fours : (bytes : List ℕ) → all_of_bytes bytes ≡ map of_four (fours bytes)
 unfolding all_of_bytes
-value_at-is d [] i h = absurd (omega arith)
-value_at-is d (b0 ∷ []) i h = absurd (omega arith)
-value_at-is d (b0 ∷ b1 ∷ []) i h = absurd (omega arith)
-value_at-is d (b0 ∷ b1 ∷ b2 ∷ []) i h = absurd (omega arith)
-value_at-is d (b0 ∷ b1 ∷ b2 ∷ b3 ∷ rest) zero h = refl
-value_at-is d (b0 ∷ b1 ∷ b2 ∷ b3 ∷ rest) (suc i) h = later_value b0 b1 b2 b3 rest i ∙ value_at-is d rest i (omega arith)
+all-fours [] = refl
+all-fours (b0 ∷ []) = refl
+all-fours (b0 ∷ b1 ∷ []) = refl
+all-fours (b0 ∷ b1 ∷ b2 ∷ []) = refl
+all-fours (b0 ∷ b1 ∷ b2 ∷ b3 ∷ rest) =
+    let one_more : length (b0 ∷ b1 ∷ b2 ∷ b3 ∷ rest) / 4 ≡ suc (length rest / 4) = omega arith in
+    rw one_more (ap₂ (λ (x : Float) (xs : List Float). x ∷ xs) (value_at-is (b0 ∷ b1 ∷ b2 ∷ b3 ∷ [])) (all-fours rest))
 
 -- ---- behind others
 
@@ -68,10 +70,15 @@ module _ (floats : List Float) (bytes : List ℕ) (i : ℕ) (d : Float) where
   pub value_before : (d' : Float) → i < length floats → get_or floats i d' ≡ value
   value_before d' h = default_unseen floats i d' d h ∙ sym (get_or-append floats (all_of_bytes bytes) d i h)
 
-  pub value_behind : length floats ≤ i → {j : ℕ} → j ≡ i - length floats → j < length bytes / 4 → value_at bytes (4 * j) ≡ value
-  value_behind past {j} e h =
-      let here : length floats + j ≡ i = omega (arith, e) in
-      value_at-is d bytes j h
+  pub value_behind :
+      {pieces : List (List ℕ)} → pieces ≡ fours bytes → length floats ≤ i → i - length floats < length bytes / 4 →
+      of_four (get_or pieces (i - length floats) []) ≡ value
+  value_behind cut past h =
+      let j = i - length floats in
+      let here : length floats + j ≡ i = omega arith in
+      ap (λ (l : List (List ℕ)). of_four (get_or l j [])) cut
+      ∙ sym (get_or-map of_four (fours bytes) j [] d (omega (arith, length-fours (length bytes / 4) bytes)))
+      ∙ ap (λ (xs : List Float). get_or xs j d) (sym (all-fours bytes))
       ∙ sym (get_or-append-add floats (all_of_bytes bytes) j d)
       ∙ ap (λ (n : ℕ). get_or (values_in floats bytes) n d) here
 
@@ -96,41 +103,46 @@ pub record Copied (bytes : List ℕ) (old : List Float) (count : ℕ) (values : 
 pub copied_starts : {bytes : List ℕ} {old : List Float} {count : ℕ} → Copied bytes old count old 0
 copied_starts {bytes} {old} = record { turns = omega arith; size = refl; front = paste-zero old 0 (new bytes old) }
 
-length-new :
-    (bytes : List ℕ) (old : List Float) (count : ℕ) → count ≡ min (length old) (length bytes / 4) → count ≡ length (new bytes old)
-length-new bytes old count counted =
-    counted ∙ ap (min (length old)) (sym (length-all bytes)) ∙ sym (length-take (length old) (all_of_bytes bytes))
-
 module _
     {bytes : List ℕ} {old : List Float} {count : ℕ} {values : List Float} {i : ℕ} (now : Copied bytes old count values i)
-    (counted : count ≡ min (length old) (length bytes / 4)) where
+    {pieces : List (List ℕ)} (cut : pieces ≡ fours bytes) (counted : count ≡ min (length old) (length pieces)) where
+  many : length pieces ≡ length bytes / 4
+  many = ap length cut ∙ length-fours (length bytes / 4) bytes
+
+  length-new : count ≡ length (new bytes old)
+  length-new = omega (arith, counted, many, length-all bytes, length-take (length old) (all_of_bytes bytes))
+
+  new_value : i < count → of_four (get_or (take count pieces) i []) ≡ get_or (new bytes old) i nan
+  new_value h =
+      ap of_four (get_or-take count pieces i [] h)
+      ∙ ap (λ (l : List (List ℕ)). of_four (get_or l i [])) cut
+      ∙ sym (get_or-map of_four (fours bytes) i [] nan (omega (arith, counted, many, length-fours (length bytes / 4) bytes)))
+      ∙ ap (λ (xs : List Float). get_or xs i nan) (sym (all-fours bytes))
+      ∙ sym (get_or-take (length old) (all_of_bytes bytes) i nan (omega (arith, counted)))
+
   pub copied_goes_on :
-      i < count → {x : Float} → x ≡ value_at bytes (4 * i) → {values' : List Float} → values' ≡ set values i x →
-      Copied bytes old count values' (i + 1)
-  copied_goes_on h {x} e {values'} f =
-      let value : x ≡ get_or (new bytes old) i nan =
-      e ∙ value_at-is nan bytes i (omega (arith, counted))
-      ∙ sym (get_or-take (length old) (all_of_bytes bytes) i nan (omega (arith, counted))) in
+      i < length (take count pieces) → {x : Float} → x ≡ value_at (get_or (take count pieces) i []) →
+      Copied bytes old count (set values i x) (i + 1)
+  copied_goes_on h {x} e =
+      let below : i < count = omega (arith, h, length-take count pieces) in
       record {
         turns = omega arith;
-        size = rw f (simp length-set now.size);
+        size = simp length-set now.size;
         front =
-            f
-            ∙ ap₂ (λ (l : List Float) (y : Float). set l i y) now.front value
+            ap₂ (λ (l : List Float) (y : Float). set l i y) now.front (e ∙ value_at-is (get_or (take count pieces) i []) ∙ new_value below)
             ∙ ap (λ (n : ℕ). set (copied bytes old i) n (get_or (new bytes old) i nan)) (sym (zero-add i))
-            ∙ paste-suc old 0 (new bytes old) i nan (omega (arith, counted)) (omega (arith, length-new bytes old count counted))
+            ∙ paste-suc old 0 (new bytes old) i nan (omega (arith, counted)) (omega (arith, length-new))
             ∙ ap (copied bytes old) (sym (add-one i));
       }
 
-  pub copied_ends : count ≤ i → Fills bytes old values count
+  pub copied_ends : length (take count pieces) ≤ i → Fills bytes old values count
   copied_ends past =
-      let last : i ≡ count = omega (arith, now.turns) in
-      let all = length-new bytes old count counted in
+      let last : i ≡ count = omega (arith, now.turns, counted, length-take count pieces) in
       record {
-        counted = all;
+        counted = length-new;
         front =
             now.front
             ∙ ap (copied bytes old) last
             ∙ ap₂ (λ (front : List Float) (n : ℕ). front ++ drop n old)
-            (ap (λ (n : ℕ). take n (new bytes old)) all ∙ take-length (new bytes old)) (zero-add count);
+            (ap (λ (n : ℕ). take n (new bytes old)) length-new ∙ take-length (new bytes old)) (zero-add count);
       }

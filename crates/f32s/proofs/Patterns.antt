@@ -1,13 +1,13 @@
 -- Which bit patterns are a NaN's, by one comparison, and that each of them is the one NaN; which are finite. Assumes nothing.
-use mathlib.Core.Bool.{Bool, true, false, cond, not, beq}
+use mathlib.Core.Bool.{Bool, true, false, cond, not}
 use mathlib.Core.Path.{◌≡◌, refl, sym, ap, subst, ◌∙◌}
-use Prim.Native.Nat.{ℕ, zero, suc, ◌+◌, ◌*◌, ◌/◌, ◌%◌, ◌^◌, ◌≤◌, ◌<◌}
+use Prim.Native.Nat.{ℕ, zero, suc, ◌+◌, ◌/◌, ◌%◌, ◌^◌, ◌≤◌, ◌<◌}
 use native.Mathlib.Omega.{arith}
-use borrow.Author.Tests.{lt-ltb, le-ltb, eq-eqb}
+use borrow.Author.Tests.{lt-ltb, le-ltb}
 use lib.Dec.{T, eqb}
-use lib.IntN.{ℤ}
-use lib.Ieee.{Float, nan, inf, fin, binary32, odd, is_nan, of_fields, of_bits, nan_bits, to_bits, eq, up, down}
+use lib.Ieee.{Float, nan, inf, fin, binary32, odd, is_nan, of_fields, of_bits, nan_bits, to_bits}
 use lib.Ieee.Bits.{nan_bits_is, nan_bits_above}
+use Rattle.std.specs.Float.{float_is_finite}
 use Rattle.f32s.specs.Single.{zero32, finite}
 
 -- an infinity's pattern without its sign
@@ -69,24 +69,18 @@ pub finite_number : (n : ℕ) → finite (of_bits binary32 n) ≡ true → T (no
 finite_number n h =
     subst (λ (b : Bool). T (not b)) (sym (nan_bits_is binary32 n)) (finite_not_nan (of_bits binary32 n) h)
 
--- ---- a NaN alone does not equal itself
+-- ---- the library's test
 
-same_sign : (s : Bool) → beq s s ≡ true
-same_sign true = refl
-same_sign false = refl
+pub finite_is : (x : Float) → float_is_finite x ≡ finite x
+unfolding float_is_finite
+finite_is nan = refl
+finite_is (inf s) = refl
+finite_is (fin s m d) = refl
 
-number_itself : (s : Bool) (m : ℕ) (d : ℤ) → eq (fin s m d) (fin s m d) ≡ true
-unfolding eq
-number_itself s m d = simp (eq-eqb _ (m * up d * down d) refl, same_sign s)
+-- ---- a NaN's bits
 
-pub itself_number : (x : Float) → eq x x ≡ true → T (not (is_nan x))
-unfolding eq is_nan
-itself_number nan e = subst T (sym e) tt
-itself_number (inf s) e = tt
-itself_number (fin s m d) e = tt
-
-pub not_itself_bits : (x : Float) → eq x x ≡ false → 0x7fc0_0000 ≡ to_bits binary32 x
-unfolding eq to_bits
-not_itself_bits nan e = refl
-not_itself_bits (inf s) e = absurd (subst T (sym (same_sign s) ∙ e) tt)
-not_itself_bits (fin s m d) e = absurd (subst T (sym (number_itself s m d) ∙ e) tt)
+pub nan_bits_of : (x : Float) → is_nan x ≡ true → 0x7fc0_0000 ≡ to_bits binary32 x
+unfolding is_nan to_bits
+nan_bits_of nan e = refl
+nan_bits_of (inf s) e = cc
+nan_bits_of (fin s m d) e = cc

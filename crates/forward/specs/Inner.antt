@@ -1,22 +1,10 @@
--- What the functions ask and ensure, in f32; the same over any kind of decoder is in crate `correlation`. Definitions
--- only.
-use Rattle.std.specs.Prelude.{true, List, ◌≡◌, ℕ, Float, get_or}
-use Rattle.std.specs.Float.{nan}
+-- How the decoder holds its metrics, and what it asks of readings, in f32. Definitions only.
+use Rattle.std.specs.Prelude.{true, List, ◌≡◌, ℕ, Float}
 use Rattle.correlation.specs.Inner as any
 use Rattle.f32s.specs.Single.{zero32, finite}
-use Rattle.refusal.specs.Lent.{Lent}
-use Rattle.trellis.specs.declared.ConvCode.{ConvCode}
-use Rattle.trellis.specs.declared.KeepPattern.{KeepPattern}
-use Rattle.trellis.specs.Choice.{keep_of}
+use Rattle.steps.specs.Holding.{Holding}
 use Rattle.trellis.specs.Keep.{Keep}
 use Rattle.forward.specs.Sums.{soft}
-
--- the metrics as the code holds them
-abbrev pub held : List Float → ℕ → Float
-held pm s = get_or pm s nan
-
-abbrev pub Selects : ConvCode → (pm : List Float) (a b : Float) → Lent Float → Lent ℕ → Type 0
-Selects code pm a b next row = any.Selects soft code (held pm) a b next row
 
 -- the readings that so many steps use: each is finite
 abbrev pub IsFinite : Float → Type 0
@@ -25,15 +13,14 @@ IsFinite x = finite x ≡ true
 abbrev pub UsedFinite : Keep → (steps : ℕ) → List Float → Type 0
 UsedFinite p steps readings = any.UsedEach IsFinite zero32 p steps readings
 
--- `value_at`: so is the reading of a kept place
-abbrev pub KeptFinite : (column : ℕ) → List Float → (at : ℕ) → Type 0
-KeptFinite column readings at = column ≡ 1 → IsFinite (get_or readings at zero32)
-
--- `forward`
-pub record Runnable
-    (code : ConvCode) (half : ℕ) (keep : KeepPattern) (readings : List Float) (steps : ℕ) (rows : List ℕ) : Type 0 where
-  pub shaped : any.Runnable code half keep steps rows
-  pub used : UsedFinite (keep_of keep) steps readings
-
-abbrev pub Runs : ConvCode → Keep → (states steps : ℕ) → List Float → Float → Lent ℕ → Type 0
-Runs code p states steps readings r rows = any.Runs soft code p states steps readings r rows
+-- an f32 stands for itself, and any has room for more
+abbrev pub floats_held : Holding Float
+floats_held =
+    record {
+      Value = Float;
+      value = λ (x : Float). x;
+      kind = soft;
+      Asked = IsFinite;
+      Room = λ (x : Float). Unit {0};
+      After = λ (t : ℕ) (x : Float). Unit {0};
+    }

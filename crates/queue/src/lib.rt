@@ -13,6 +13,8 @@ pub const BITS: usize = 256;
 
 pub const CHARS: usize = 64;
 
+// An array, a head and a count, and none of the library's queues: nothing allocates, and a record with any head and
+// count is read as one within the array (`read_as`).
 #[derive(Clone, Copy)]
 pub struct Queue<const ROOM: usize> {
     pub slots: [u8; ROOM],
@@ -37,14 +39,14 @@ impl<const ROOM: usize> Queue<ROOM> {
     }
 
     // The queue as it is read, whatever its head and count.
-    pub fn read(self) -> Self
+    pub fn read(&self) -> Self
         requires { Size ROOM }
-        ensures { ring result ≡ read_as ROOM (ring self.entry) }
+        ensures { ring result ≡ read_as ROOM (ring self.now) }
     {
         Queue {
             head: self.head % ROOM,
             count: self.count % (ROOM + 1),
-            ..self
+            ..*self
         }
     }
 
@@ -87,9 +89,9 @@ impl<const ROOM: usize> Queue<ROOM> {
     }
 
     // The element that is taken out next.
-    pub fn front(self) -> u8
-        requires { Room ROOM (ring self) 0 }
-        ensures { result ≡ front (ring self.entry) }
+    pub fn front(&self) -> u8
+        requires { Room ROOM (ring self.now) 0 }
+        ensures { result ≡ front (ring self.now) }
     {
         self.slots[self.head]
     }
@@ -114,11 +116,10 @@ impl<const ROOM: usize> Queue<ROOM> {
         ensures front { taken_said result.0 ≡ taken ROOM (ring self.entry) }
         ensures rest { ring result.1 ≡ left ROOM (ring self.entry) }
     {
-        if self.count % (ROOM + 1) == 0 {
+        let q = self.read();
+        if q.count == 0 {
             return (None, self);
         }
-        let q = self.read();
-        let front = q.slots[q.head];
-        (Some(front), q.rest())
+        (Some(q.front()), q.rest())
     }
 }

@@ -16,7 +16,7 @@ use Rattle.best_path.specs.Path.{Total, none, total, wholes, added}
 use Rattle.best_path.specs.Step.{Cell, unreached, chosen, relaxed}
 use Rattle.best_path.proofs.Order.{at_most_not_below}
 use Rattle.best_path.proofs.Sizes.{abs-add}
-use Rattle.signed_butterflies.specs.declared.NewState.{NewState}
+use Rattle.best_path.specs.declared.pair.NewState.{NewState}
 use Rattle.signed_butterflies.specs.Held.{Gained, floor, total_of, Near, Room, BestOf, cell_of}
 use Rattle.signed_butterflies.proofs.Words.{small_fits}
 
@@ -139,7 +139,7 @@ either_near bound true p q h k = h
 either_near bound false p q h k = k
 
 module _
-    (m0 m1 x y : ℤ) (s : ℕ) (r : NewState) (best : BestOf (m0 +ℤ x) (m1 +ℤ y) s r) (gx : Gained x) (gy : Gained y) where
+    (m0 m1 x y : ℤ) (s : ℕ) (r : NewState ℤ) (best : BestOf (m0 +ℤ x) (m1 +ℤ y) s r) (gx : Gained x) (gy : Gained y) where
   pub two_branches :
       Room m0 → Room m1 →
       cell_of r ≡ relaxed wholes (relaxed wholes (unreached wholes) (total_of m0) x s) (total_of m1) y (s + 1)

@@ -8,7 +8,7 @@ use lib.IntN.{ℤ, pos, neg_ℤ, nat_abs, ◌+ℤ◌, ◌-ℤ◌}
 use mir.Syntax.{w32}
 use mir.Val.{SFits, to_z, of_z}
 use Rattle.best_path.proofs.Sizes.{abs_neg, abs-add}
-use Rattle.signed_butterflies.specs.declared.Wing.{Wing}
+use Rattle.best_path.specs.declared.pair.Wing.{Wing}
 use Rattle.signed_butterflies.specs.Held.{Byte, side, Gained, Summed, Turned}
 use Rattle.signed_butterflies.proofs.Words.{small_fits, back, sum_fits, sum_back, neg-fits, neg-back}
 
@@ -74,7 +74,7 @@ module _ {c0 c1 : ℕ} {a b x y : ℤ} (of_x : Sided c0 a x) (of_y : Sided c1 b 
 
   -- so what `butterfly` says is what `turn` promises
   pub sides_turned :
-      {m0 m1 : ℤ} {s : ℕ} {r : Wing} → SFits w32 m0 → SFits w32 m1 →
+      {m0 m1 : ℤ} {s : ℕ} {r : Wing ℤ} → SFits w32 m0 → SFits w32 m1 →
       Summed (again m0) (again m1) s (again (again x +ℤ again y)) (again (again (pos 0 -ℤ again x) -ℤ again y)) r →
       Turned c0 c1 a b m0 m1 s r
   sides_turned f g summed =

@@ -2,12 +2,13 @@
 -- stands for no total nothing more is said. `Post` is the contract as the prover reads it: of what the call is given, what it
 -- returns, and what it leaves in each argument. Assumes nothing.
 use mathlib.Core.Path.{◌≡◌, sym, ◌∙◌}
-use Rattle.signed_butterflies.specs.declared.Wing.{Wing}
+use lib.IntN.{ℤ}
+use Rattle.best_path.specs.declared.pair.Wing.{Wing}
 use Rattle.signed_butterflies.specs.Held.{cell_of}
 use Rattle.signed_butterflies.proofs.turn.Reads as turn
 
 pub turn_once :
-    (κs c0 c1 a b m0 m1 s : _) (r r' : Wing) →
+    (κs c0 c1 a b m0 m1 s : _) (r r' : Wing ℤ) →
     turn.Post κs (c0, (c1, (a, (b, (m0, (m1, (s, tt))))))) r (c0, (c1, (a, (b, (m0, (m1, (s, tt))))))) →
     turn.Post κs (c0, (c1, (a, (b, (m0, (m1, (s, tt))))))) r' (c0, (c1, (a, (b, (m0, (m1, (s, tt))))))) →
     (cell_of r.low ≡ cell_of r'.low) × (cell_of r.high ≡ cell_of r'.high)

@@ -5,8 +5,8 @@ use Rattle.std.specs.Int.Signed.{lt_z}
 use Rattle.best_path.specs.Inner.{LedTo}
 use Rattle.best_path.specs.Path.{Total, none, total, wholes}
 use Rattle.best_path.specs.Step.{Cell}
-use Rattle.signed_butterflies.specs.declared.NewState.{NewState}
-use Rattle.signed_butterflies.specs.declared.Wing.{Wing}
+use Rattle.best_path.specs.declared.pair.NewState.{NewState}
+use Rattle.best_path.specs.declared.pair.Wing.{Wing}
 
 -- ---- what is added
 
@@ -43,12 +43,12 @@ Room x = Near (2 ^ 28) x
 -- ---- the functions
 
 -- `best_of`: the larger of two sums, the first among equals; no state where it stands for no total
-pub record BestOf (x0 x1 : ℤ) (s : ℕ) (r : NewState) : Type 0 where
+pub record BestOf (x0 x1 : ℤ) (s : ℕ) (r : NewState ℤ) : Type 0 where
   pub met : r.met ≡ cond (lt_z x0 x1) x1 x0
   pub from : r.from ≡ cond (lt_z (cond (lt_z x0 x1) x1 x0) floor) 0 (cond (lt_z x0 x1) (s + 1) s)
 
 -- a new state as the code holds it
-abbrev pub cell_of : NewState → Cell Total
+abbrev pub cell_of : NewState ℤ → Cell Total
 cell_of z = record { met = total_of z.met; from = z.from }
 
 -- `butterfly`: room for the four sums
@@ -60,7 +60,7 @@ pub record Summable (m0 m1 : ℤ) (s : ℕ) (x y : ℤ) : Type 0 where
   pub second : Gained y
 
 -- `butterfly`: the states s and s + 1, of metrics m0 and m1, on either input; the new metrics are not much larger
-pub record Summed (m0 m1 : ℤ) (s : ℕ) (x y : ℤ) (r : Wing) : Type 0 where
+pub record Summed (m0 m1 : ℤ) (s : ℕ) (x y : ℤ) (r : Wing ℤ) : Type 0 where
   pub led : LedTo wholes (total_of m0) (total_of m1) s x y (cell_of r.low) (cell_of r.high)
   pub near :
       (bound : ℕ) → bound ≤ 2 ^ 28 → Near bound m0 → Near bound m1 →
@@ -75,6 +75,6 @@ pub record Turnable (a b m0 m1 : ℤ) (s : ℕ) : Type 0 where
   pub odd : Room m1
 
 -- `turn`: that butterfly, by what the coded pair c0 c1 and its opposite bring where the step reads a and b
-abbrev pub Turned : (c0 c1 : ℕ) (a b m0 m1 : ℤ) (s : ℕ) → Wing → Type 0
+abbrev pub Turned : (c0 c1 : ℕ) (a b m0 m1 : ℤ) (s : ℕ) → Wing ℤ → Type 0
 Turned c0 c1 a b m0 m1 s r =
     Summed m0 m1 s (side c0 a +ℤ side c1 b) (neg_ℤ (side c0 a) -ℤ side c1 b) r

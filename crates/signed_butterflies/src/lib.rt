@@ -5,23 +5,11 @@ ghost use Rattle.std.specs.Prelude.{cond, ◌≡◌, ◌+◌, ◌<◌};
 ghost use Rattle.std.specs.Int.Signed.{lt_z};
 ghost use Rattle.signed_butterflies.specs.Held.{Byte, side, BestOf, Summable, Summed, Turnable, Turned};
 
+use best_path::pair::{NewState, Wing};
+
 // −2^29: a metric below it is of a state that was not reached. Such a metric is added to like any other, and stays far
 // below every sum; so a branch needs no test.
 const FLOOR: i32 = -536870912;
-
-// The best way into a state so far: its metric, and the state that it comes from.
-#[derive(Clone, Copy)]
-pub struct NewState {
-    pub met: i32,
-    pub from: u8,
-}
-
-// What two states lead to: the new state on the input 0, and on the input 1.
-#[derive(Clone, Copy)]
-pub struct Wing {
-    pub low: NewState,
-    pub high: NewState,
-}
 
 // The second where it is larger.
 fn larger(z: i32, x: i32) -> i32
@@ -39,7 +27,7 @@ fn from_larger(z: i32, x: i32, s: u8) -> u8
 }
 
 // The best way into a state: the candidate x0 comes from the state s, x1 from s + 1.
-fn best_of(x0: i32, x1: i32, s: u8) -> NewState
+fn best_of(x0: i32, x1: i32, s: u8) -> NewState<i32>
     requires { s < 255 }
     ensures { BestOf x0 x1 s result }
 {
@@ -53,7 +41,7 @@ fn best_of(x0: i32, x1: i32, s: u8) -> NewState
 
 // The states s and s + 1, of metrics m0 and m1. On the input 0 their branches bring x and y, on the
 // input 1 y and x.
-fn butterfly(m0: i32, m1: i32, s: u8, x: i32, y: i32) -> Wing
+fn butterfly(m0: i32, m1: i32, s: u8, x: i32, y: i32) -> Wing<i32>
     requires { Summable m0 m1 s x y }
     ensures { Summed m0 m1 s x y result }
 {
@@ -72,7 +60,7 @@ fn signed(coded: u32, a: i32) -> i32
 
 // A turn of a step's loop: the same butterfly, from the coded bits that the even state sends on the input 0, where the
 // step reads a and b.
-pub fn turn(c0: u32, c1: u32, a: i32, b: i32, m0: i32, m1: i32, s: u8) -> Wing
+pub fn turn(c0: u32, c1: u32, a: i32, b: i32, m0: i32, m1: i32, s: u8) -> Wing<i32>
     requires { Turnable a b m0 m1 s }
     ensures { Turned c0 c1 a b m0 m1 s result }
 {

@@ -7,7 +7,8 @@ ghost use Rattle.streaming_steps.specs.Inner.{SelectsNew, NormalisedAfter};
 
 use crate::Front;
 use crate::sent::{SENT0, SENT1};
-use butterflies::smallest::MARK;
+use butterflies::better_of;
+use butterflies::smallest::{MARK, Smallest};
 use symbols::forward_pass::step;
 
 // One symbol: the new metrics go to next, the survivors to the front of froms.
@@ -28,7 +29,7 @@ fn least_of(pm: &[f32; 16]) -> f32
     let whole = &pm[..];
     let mut least = MARK;
     for s in 0..16 {
-        least = butterflies::smallest::smaller(least, pm[s]);
+        least = better_of::<Smallest>(least, pm[s]);
     }
     least
 }

@@ -6,8 +6,8 @@ use Prim.Native.Nat.{ℕ, ◌+◌, ◌*◌, ◌^◌, ◌≤◌, ◌<◌}
 use native.Mathlib.Omega.{arith}
 use lib.Ieee.{Float, nan}
 use lib.ListN.{length, get_or, set, drop_of_length-le}
-use Rattle.butterflies.specs.declared.Wing.{Wing}
-use Rattle.butterflies.specs.Inner.{Winged}
+use Rattle.best_path.specs.declared.pair.Wing.{Wing}
+use Rattle.best_path.specs.Inner.{Winged}
 use Rattle.best_path.proofs.Turns.{Paired, paired_starts, paired_mets, paired_froms, paired_goes_on}
 use Rattle.trellis.specs.declared.ConvCode.{ConvCode}
 use Rattle.trellis.specs.Inner.{Crossed}
@@ -58,7 +58,7 @@ module _
       n < half → {r : Prices} → Priced re im r → {x y : Float} →
       x ≡ pair_cost (get_or c0 n 0) (get_or c1 n 0) r.of_00 r.of_01 r.of_10 r.of_11 →
       y ≡ pair_cost (get_or c0 n 0) (get_or c1 n 0) r.of_11 r.of_10 r.of_01 r.of_00 →
-      {w : Wing} → Winged smallest (get_or pm (2 * n) nan) (get_or pm (2 * n + 1) nan) s x y w →
+      {w : Wing Float} → Winged smallest (get_or pm (2 * n) nan) (get_or pm (2 * n + 1) nan) s x y w →
       {next' : List Float} {row' : List ℕ} →
       next' ≡ set (set next n w.low.met) (n + half) w.high.met →
       row' ≡ set (set row n w.low.from) (n + half) w.high.from →

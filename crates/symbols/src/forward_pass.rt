@@ -8,7 +8,8 @@ ghost use Rattle.symbols.specs.Inner.{half, Steppable, Selects, compared, LeastI
 ghost use Rattle.symbols.specs.Inner.{components, Symbols, symbol_at, Runnable, Runs};
 
 use crate::phasors::{Phasor, cost_of_pair, phasor_of, prices_of};
-use butterflies::smallest::{MARK, butterfly};
+use butterflies::butterfly;
+use butterflies::smallest::{MARK, Smallest};
 use trellis::ConvCode;
 
 // Half of the states, and all of them.
@@ -43,7 +44,7 @@ pub fn step(
         let x = cost_of_pair(c0[n], c1[n], of_00, of_01, of_10, of_11);
         let y = cost_of_pair(c0[n], c1[n], of_11, of_10, of_01, of_00);
         let even = 2 * n;
-        let w = butterfly(pm[even], pm[even + 1], s, x, y);
+        let w = butterfly::<Smallest>(pm[even], pm[even + 1], s, x, y);
         let low = w.low;
         let high = w.high;
         next[n] = low.met;

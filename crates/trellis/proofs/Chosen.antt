@@ -1,27 +1,25 @@
 -- What holds of every code and keep pattern that numbers select: so much the laws over any of them ask. Each entry of
 -- the table is tried by computing, so a further entry needs no line here. Assumes nothing.
 use mathlib.Core.Bool.{Bool, true, false, cond, ◌&&◌}
-use mathlib.Core.List.{List, [], ◌∷◌, ◌++◌, map}
+use mathlib.Core.List.{List, [], ◌∷◌, ◌++◌}
 use mathlib.Core.Logic.{◌⊎◌, inl, inr}
 use mathlib.Core.Path.{◌≡◌, refl, sym, ap, ap₂, subst}
 use Prim.Native.Nat.{ℕ, zero, suc, ◌-◌, ◌*◌, ◌%◌, ◌^◌, ◌≤◌, ◌<◌}
 use native.Mathlib.Nat.{div-one, mod-one}
 use native.Mathlib.Omega.{arith}
 use borrow.Author.Tests.{ltb-true, ltb-false, leb-true, eqb-true}
-use lib.Dec.{eqb, ltb, leb, lit<}
+use lib.Dec.{eqb, ltb, leb}
 use lib.ListN.{length, get_or, replicate, length-append, get_or-eq_default}
 use lib.Seq.{take_at}
 use Rattle.std.specs.Result.{result_unwrap_or}
 use Rattle.std.specs.Prelude.{Result, Ok, Err}
-use Rattle.std.proofs.lemmas.List.{get_or-map}
 use Rattle.trellis.specs.declared.Code.{Code}
 use Rattle.trellis.specs.declared.Code.TheVariants.{K5, K7, En300744}
 use Rattle.trellis.specs.declared.Rate.{Rate}
-use Rattle.trellis.specs.declared.Rate.TheVariants.{R1_2, R2_3, R3_4, R5_6, R7_8}
+use Rattle.trellis.specs.declared.Rate.TheVariants.{R1_2}
 use Rattle.trellis.specs.declared.UnknownCode.{UnknownCode}
 use Rattle.trellis.specs.declared.UnknownRate.{UnknownRate}
 use Rattle.trellis.specs.declared.ConvCode.{ConvCode}
-use Rattle.trellis.specs.declared.KeepPattern.{KeepPattern}
 use Rattle.trellis.specs.Keep.{Keep, Pattern, period, ones_of, coded_length}
 use Rattle.trellis.specs.Choice.{k5, k7, half, rust, standard, Coding, codings, codes, coding_of, code_of, pattern_in, pattern_of, rates_of}
 use Rattle.trellis.specs.Choice.{held_of, keep_of}
@@ -184,20 +182,6 @@ rate_pattern code rate =
     subst Pattern is.back (rows_pattern (held_of (pattern_of code rate)) is.rows)
 
 -- ---- what the numbers select
-
--- the keep patterns of a code as the code holds them: that of a rate number
-pub held_at :
-    (patterns : List Keep) (d : KeepPattern) {n k : ℕ} → n ≡ k → k < length patterns →
-    get_or (map held_of patterns) n d ≡ held_of (pattern_in patterns k)
-unfolding pattern_in
-held_at patterns d {k = k} e h = rw e (get_or-map held_of patterns k half d h)
-
-pub rate_number_few : (rate : Rate) → rate_number rate < length rust
-rate_number_few R1_2 = lit< tt
-rate_number_few R2_3 = lit< tt
-rate_number_few R3_4 = lit< tt
-rate_number_few R5_6 = lit< tt
-rate_number_few R7_8 = lit< tt
 
 -- what names no code selects K5
 pub code_named :

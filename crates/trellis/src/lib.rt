@@ -7,7 +7,8 @@ ghost use Rattle.trellis.specs.Choice.{coding_of, code_of, pattern_of, held_of, 
 ghost use Rattle.trellis.specs.Keep.{coded_length};
 ghost use Rattle.trellis.specs.Numbers.{code_number, rate_number, NamesCode, NamesRate};
 ghost use Rattle.trellis.specs.State.{window, parity_of, next_state};
-ghost use Rattle.trellis.specs.Inner.{Chooses, Branch, Branched, Halved, SendsEven, OnesIn, Columns, OnesOfColumns, Measurable};
+ghost use Rattle.trellis.specs.Inner.{Chooses, Branch, Branched, Halved, SendsEven};
+ghost use Rattle.trellis.specs.Inner.{OnesIn, Columns, OnesOfColumns, Measurable};
 
 // A code: the register's width K - 1, and the tap words over the window of K bits, whose top bit
 // is the input.
@@ -105,7 +106,8 @@ const K7: ConvCode = ConvCode {
     g1: 0b1011011,
 };
 
-// A keep pattern: G0's row and G1's, of which the first `period` columns count.
+// A keep pattern: G0's row and G1's, of which the first `period` columns count. The project keeps to fixed memory, and
+// `held_of` fixes each byte, so the rows are arrays of the longest period and not slices of the pattern's own.
 #[derive(Clone, Copy)]
 pub struct KeepPattern {
     pub period: usize,
@@ -170,12 +172,6 @@ const STANDARD_7_8: KeepPattern = KeepPattern {
     row1: [1, 1, 1, 1, 0, 1, 0],
 };
 
-// The keep patterns of the Rust, by the rates. A static: of a const the compiler lays out all five at each call.
-static RUST: [KeepPattern; 5] = [HALF, RUST_2_3, RUST_3_4, RUST_5_6, RUST_7_8];
-
-// Those of EN 300 744.
-static STANDARD: [KeepPattern; 5] = [HALF, STANDARD_2_3, STANDARD_3_4, STANDARD_5_6, STANDARD_7_8];
-
 impl Code {
     // The code of a number, K5 where the number is no code's.
     fn of(number: u8) -> Self
@@ -184,6 +180,7 @@ impl Code {
         Code::try_from(number).unwrap_or(Code::K5)
     }
 
+    #[tactic(auto, unfolding(crate::specs::Choice::code_of))]
     fn tap_words(self) -> ConvCode
         ensures { result ≡ code_of (code_number self) }
     {
@@ -193,12 +190,20 @@ impl Code {
         }
     }
 
+    #[tactic(auto, unfolding(crate::specs::Choice::pattern_of, crate::specs::Choice::held_of))]
     fn keep(self, rate: Rate) -> KeepPattern
         ensures { result ≡ held_of (pattern_of (code_number self) (rate_number rate)) }
     {
-        match self {
-            Code::K5 | Code::K7 => RUST[rate.number()],
-            Code::En300744 => STANDARD[rate.number()],
+        match (self, rate) {
+            (_, Rate::R1_2) => HALF,
+            (Code::En300744, Rate::R2_3) => STANDARD_2_3,
+            (Code::En300744, Rate::R3_4) => STANDARD_3_4,
+            (Code::En300744, Rate::R5_6) => STANDARD_5_6,
+            (Code::En300744, Rate::R7_8) => STANDARD_7_8,
+            (_, Rate::R2_3) => RUST_2_3,
+            (_, Rate::R3_4) => RUST_3_4,
+            (_, Rate::R5_6) => RUST_5_6,
+            (_, Rate::R7_8) => RUST_7_8,
         }
     }
 }
@@ -210,12 +215,6 @@ impl Rate {
             ≡ pattern_of (code_number code) number }
     {
         Rate::try_from(number).unwrap_or(Rate::R1_2)
-    }
-
-    fn number(self) -> usize
-        ensures { result ≡ rate_number self }
-    {
-        self as usize
     }
 }
 
@@ -279,7 +278,7 @@ pub fn branch_bits(code: ConvCode, s: u32, b: u32) -> Pair
 
 // For each even state 2n the coded bits that it sends on the input 0. By the tap words' end bits these
 // tell the others: the state 2n + 1 sends the opposite pair on the same input, and so does 2n on the
-// input 1.
+// input 1. Two arrays, and not one of pairs: a decoder's loop loads the bits of many states at once.
 #[derive(Clone, Copy)]
 pub struct Planes {
     pub c0: [u32; 32],
@@ -292,6 +291,7 @@ pub fn sent_by_even(code: ConvCode, half: usize) -> Planes
 {
     let mut c0 = [0; 32];
     let mut c1 = [0; 32];
+    // n is a number that is computed with; a zip of both arrays with their indices would be no plainer.
     for n in 0..half {
         let even = 2 * n;
         let pair = branch_bits(code, even as u32, 0);

@@ -8,4 +8,4 @@ use Rattle.f32s.proofs.are_finite.Goals as goal
 
 pub returns : goal.returns
 returns c =
-    ap (λ (n : ℕ). not (eqb (n / 2 ^ 23 % 256) 255)) c.joined.ensures ∙ sym (finite_pattern _)
+    ap (λ (n : ℕ). not (eqb (n / 2 ^ 23 % 256) 255)) c.from_le_bytes.ensures ∙ sym (finite_pattern _)

@@ -1,28 +1,24 @@
 -- `f32s::finite_in`: the three places where a value can be. Assumes nothing.
-use mathlib.Core.Path.{refl, ap, ◌∙◌}
+use mathlib.Core.Path.{ap, ◌∙◌}
 use native.Mathlib.Omega.{arith}
-use lib.Ieee.{nan}
 use Rattle.f32s.specs.Single.{zero32, finite}
-use Rattle.f32s.proofs.AllBytes.{value_before, value_behind, value_missing}
+use Rattle.f32s.proofs.AllBytes.{value_behind, value_missing}
+use Rattle.f32s.proofs.Patterns.{finite_number}
 use Rattle.f32s.proofs.finite_in.Goals as goal
 
-pub returns-then-i-floats : goal.returns-then-i-floats
-returns-then-i-floats c =
-    value_before c.args.floats.now c.args.bytes.now c.args.i zero32 nan c.if-i-floats.true
+pub from_le_bytes-requires : goal.from_le_bytes-requires
+from_le_bytes-requires c =
+    finite_number _
+    (ap finite
+    (value_behind c.args.floats.now c.args.bytes.now c.args.i zero32 c.as_chunks.ensures.front c.if-i-floats.false
+    (omega (arith, c.if-behind-fours.true, c.as_chunks.ensures.front_len)))
+    ∙ c.requires)
 
-pub from_finite-requires : goal.from_finite-requires
-from_finite-requires c =
-    ap finite
-    (value_behind c.args.floats.now c.args.bytes.now c.args.i zero32 c.if-i-floats.false refl
-    c.if-behind-bytes.true)
-    ∙ c.requires
+pub returns-then-behind-fours : goal.returns-then-behind-fours
+returns-then-behind-fours c =
+    c.from_le_bytes.ensures
+    ∙ value_behind c.args.floats.now c.args.bytes.now c.args.i zero32 c.as_chunks.ensures.front c.if-i-floats.false
+    (omega (arith, c.if-behind-fours.true, c.as_chunks.ensures.front_len))
 
-pub returns-then-behind-bytes : goal.returns-then-behind-bytes
-returns-then-behind-bytes c =
-    c.from_finite.ensures
-    ∙ value_behind c.args.floats.now c.args.bytes.now c.args.i zero32 c.if-i-floats.false refl
-    c.if-behind-bytes.true
-
-pub returns : goal.returns
-returns c =
-    value_missing c.args.floats.now c.args.bytes.now c.args.i zero32 (omega arith)
+pub returns-else-behind-fours : goal.returns-else-behind-fours
+returns-else-behind-fours c = value_missing c.args.floats.now c.args.bytes.now c.args.i zero32 (omega arith)

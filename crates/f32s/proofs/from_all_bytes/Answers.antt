@@ -7,11 +7,7 @@ loop-i-init c = copied_starts
 
 pub loop-i-preserved : goal.loop-i-preserved
 loop-i-preserved c =
-    copied_goes_on c.loop-i.invariant c.lesser-count.ensures c.loop-i-test.true c.from_bytes.ensures (search)
-
-pub shape_of-values : goal.shape_of-values
-shape_of-values c = c.loop-i.invariant.size
+    copied_goes_on c.loop-i.invariant c.as_chunks.ensures.front c.min-count.ensures c.loop-i-test.true c.from_bytes.ensures
 
 pub returns : goal.returns
-returns c =
-    copied_ends c.loop-i.invariant c.lesser-count.ensures c.loop-i-test.false
+returns c = copied_ends c.loop-i.invariant c.as_chunks.ensures.front c.min-count.ensures c.loop-i-test.false

@@ -5,7 +5,7 @@ use native.Mathlib.Nat.{le_refl}
 use lib.IntN.{ℤ, ◌+ℤ◌}
 use mir.Syntax.{w32}
 use mir.Val.{SFits, to_z, of_z}
-use Rattle.signed_butterflies.specs.declared.NewState.{NewState}
+use Rattle.best_path.specs.declared.pair.NewState.{NewState}
 use Rattle.signed_butterflies.specs.Held.{Gained, Room, BestOf}
 use Rattle.signed_butterflies.proofs.Words.{sum_fits, sum_back}
 use Rattle.signed_butterflies.proofs.Near.{added_fits, two_branches, best_near}
@@ -22,7 +22,7 @@ module _ (m x : ℤ) (f : SFits w32 m) (g : SFits w32 x) (room : Room m) (gained
   plain : to_z w32 (of_z w32 (to_z w32 (of_z w32 m) +ℤ to_z w32 (of_z w32 x))) ≡ m +ℤ x
   plain = sum_back m x f g fits
 
-of_plain : (x0 x1 y0 y1 : ℤ) (s : ℕ) (r : NewState) → x0 ≡ y0 → x1 ≡ y1 → BestOf x0 x1 s r → BestOf y0 y1 s r
+of_plain : (x0 x1 y0 y1 : ℤ) (s : ℕ) (r : NewState ℤ) → x0 ≡ y0 → x1 ≡ y1 → BestOf x0 x1 s r → BestOf y0 y1 s r
 of_plain x0 x1 y0 y1 s r e f b = rw (← e, ← f) b
 
 pub overflow_add-m0 : goal.overflow_add-m0

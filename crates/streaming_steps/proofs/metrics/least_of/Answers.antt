@@ -8,4 +8,4 @@ loop-s-init c = least_starts
 
 pub loop-s-preserved : goal.loop-s-preserved
 loop-s-preserved c =
-    least_goes_on c.loop-s.invariant (omega arith) (omega arith) c.smaller-least.ensures
+    least_goes_on c.loop-s.invariant (omega arith) (omega arith) c.better_of-least.ensures

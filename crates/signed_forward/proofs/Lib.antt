@@ -1,5 +1,0 @@
--- Turn: the turns of a step's loop, by the metrics as the code holds them. Steps: one step after the other. Unique: the contract
--- fixes what is left, and what the metric stands for.
-pub mod Turn
-pub mod Steps
-pub mod Unique
