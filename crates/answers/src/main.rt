@@ -13,7 +13,7 @@ mod stream;
 mod varicodes;
 
 use call_lines::print::Printer;
-use call_lines::shapes::is_call;
+use call_lines::shapes::{Call, call_of};
 use std::io;
 use std::io::{Read, Write};
 
@@ -23,24 +23,24 @@ const CUT: u8 = 0;
 // The room has a line of 16,384 symbols, digit by digit.
 const ROOM: usize = 266240;
 
-// The call that a letter names.
-fn call<W: Write>(to: &mut W, letter: u8, line: &[u8]) -> io::Result<()> {
-    match letter {
-        b'e' => blocks::punctured(to, line),
-        b'p' => blocks::plain(to, line),
-        b'l' => blocks::length(to, line),
-        b'b' => blocks::readings(to, line),
-        b'i' => blocks::signed(to, line),
-        b's' => blocks::soft(to, line),
-        b'h' => blocks::hard(to, line),
-        b'n' => stream::fresh(to),
-        b't' => stream::feed(to, line),
-        b'u' => stream::flush(to, line),
-        b'v' => varicodes::word(to, line),
-        b'd' => varicodes::lookups(to, line),
-        b'm' => varicodes::fresh(to),
-        b'w' => varicodes::write(to, line),
-        _ => varicodes::read(to, line),
+// Makes a call, and prints its answer's fields.
+fn make<W: Write>(to: &mut W, call: Call, line: &[u8]) -> io::Result<()> {
+    match call {
+        Call::Punctured => blocks::punctured(to, line),
+        Call::Plain => blocks::plain(to, line),
+        Call::Length => blocks::length(to, line),
+        Call::Readings => blocks::readings(to, line),
+        Call::Signed => blocks::signed(to, line),
+        Call::Soft => blocks::soft(to, line),
+        Call::Hard => blocks::hard(to, line),
+        Call::FreshStream => stream::fresh(to),
+        Call::Feed => stream::feed(to, line),
+        Call::Flush => stream::flush(to, line),
+        Call::Word => varicodes::word(to, line),
+        Call::Lookups => varicodes::lookups(to, line),
+        Call::FreshCoders => varicodes::fresh(to),
+        Call::Write => varicodes::write(to, line),
+        Call::Read => varicodes::read(to, line),
     }
 }
 
@@ -49,11 +49,13 @@ fn answer<W: Write>(to: &mut W, line: &[u8]) -> io::Result<()> {
     match line {
         [] | [b'#', ..] => {}
         [CUT, ..] => to.write_all(b"too long")?,
-        [letter, ..] if is_call(line) => {
-            to.write_all(&line[..1])?;
-            call(to, *letter, line)?;
-        }
-        _ => to.write_all(b"no call")?,
+        [letter, ..] => match call_of(line) {
+            Some(call) => {
+                to.write_all(&[*letter])?;
+                make(to, call, line)?;
+            }
+            None => to.write_all(b"no call")?,
+        },
     }
     to.write_all(b"\n")
 }

@@ -70,7 +70,8 @@ module _ (code : ConvCode) (p : Keep) (info : ℕ) where
         word code p others info ≡ v
 
 -- Of a call on whole readings within the sum, by what it was given, what it returned and what it left in the output:
-pub record ClaimOfCall (code rate info : ℕ) (readings : List Float) (r : Result Float Refusal) (out : List ℕ) : Type 0 where
+pub record ClaimOfCall
+    (code rate info : ℕ) (readings : List Float) (r : Result Float Refusal) (out : List ℕ) : Type 0 where
   -- accepted, the front of the output is a word, and the answer a score, of which the claim holds
   pub accepts :
       (zs : List ℤ) → Exact (code_of code) (pattern_of code rate) info readings zs → (s : Float) →

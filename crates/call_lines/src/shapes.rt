@@ -4,6 +4,30 @@ use crate::fields::{LONG, SHORT, parse, size};
 // The most components of a line: one symbol more than 16,384, and an odd one.
 pub const COMPONENTS: usize = 32771;
 
+// The calls, a letter each.
+#[derive(Clone, Copy)]
+pub enum Call {
+    // Of the encoders.
+    Punctured,
+    Plain,
+    Length,
+    // Of the block decoders.
+    Readings,
+    Signed,
+    Soft,
+    Hard,
+    // Of the streaming decoder.
+    FreshStream,
+    Feed,
+    Flush,
+    // Of Varicode: its words, its writer and its reader.
+    Word,
+    Lookups,
+    FreshCoders,
+    Write,
+    Read,
+}
+
 // What a field spells.
 #[derive(Clone, Copy)]
 enum Kind {
@@ -76,22 +100,22 @@ fn fits(line: &[u8], kinds: &[Kind]) -> bool {
     texts.all(|text| has_steps && is_step(text))
 }
 
-// Whether a line is a call.
-pub fn is_call(line: &[u8]) -> bool {
-    let Some([letter]) = line.split(|b| *b == b' ').next() else {
-        return false;
-    };
+// The call that a line is, where it is one.
+pub fn call_of(line: &[u8]) -> Option<Call> {
     use Kind::{Byte, Bytes, Components, Exactly, Flag, Length, Number, Steps, Word};
-    match letter {
-        b'e' => fits(line, &[Byte, Byte, Bytes(SHORT), Length(SHORT)]),
-        b'p' => fits(line, &[Bytes(SHORT), Length(SHORT)]),
-        b'l' => fits(line, &[Byte, Byte, Number]),
-        b'b' => fits(
-            line,
+    let Some([letter]) = line.split(|b| *b == b' ').next() else {
+        return None;
+    };
+    let (call, kinds): (Call, &[Kind]) = match letter {
+        b'e' => (Call::Punctured, &[Byte, Byte, Bytes(SHORT), Length(SHORT)]),
+        b'p' => (Call::Plain, &[Bytes(SHORT), Length(SHORT)]),
+        b'l' => (Call::Length, &[Byte, Byte, Number]),
+        b'b' => (
+            Call::Readings,
             &[Byte, Byte, Number, Bytes(LONG), Length(SHORT), Length(LONG)],
         ),
-        b'i' => fits(
-            line,
+        b'i' => (
+            Call::Signed,
             &[
                 Byte,
                 Byte,
@@ -101,20 +125,26 @@ pub fn is_call(line: &[u8]) -> bool {
                 Length(LONG),
             ],
         ),
-        b's' => fits(line, &[Components, Length(SHORT), Length(LONG)]),
-        b'h' => fits(line, &[Bytes(SHORT), Length(SHORT), Length(LONG)]),
-        b't' => fits(line, &[Exactly(64), Exactly(2048), Byte, Byte, Components]),
-        b'u' => fits(
-            line,
+        b's' => (Call::Soft, &[Components, Length(SHORT), Length(LONG)]),
+        b'h' => (Call::Hard, &[Bytes(SHORT), Length(SHORT), Length(LONG)]),
+        b'n' => (Call::FreshStream, &[]),
+        b't' => (
+            Call::Feed,
+            &[Exactly(64), Exactly(2048), Byte, Byte, Components],
+        ),
+        b'u' => (
+            Call::Flush,
             &[Exactly(64), Exactly(2048), Byte, Byte, Length(SHORT)],
         ),
-        b'v' | b'd' => fits(line, &[Byte]),
-        b'w' => fits(line, &[Exactly(256), Number, Number, Flag, Steps]),
-        b'r' => fits(
-            line,
+        b'v' => (Call::Word, &[Byte]),
+        b'd' => (Call::Lookups, &[Byte]),
+        b'm' => (Call::FreshCoders, &[]),
+        b'w' => (Call::Write, &[Exactly(256), Number, Number, Flag, Steps]),
+        b'r' => (
+            Call::Read,
             &[Flag, Word, Byte, Flag, Exactly(64), Number, Number, Steps],
         ),
-        b'n' | b'm' => fits(line, &[]),
-        _ => false,
-    }
+        _ => return None,
+    };
+    if fits(line, kinds) { Some(call) } else { None }
 }

@@ -13,7 +13,8 @@ use Rattle.encoder.proofs.conv_encode.Reads as conv_encode
 
 pub decides_once :
     (κs code rate info limit : _) →
-    Once (λ (r : Result (Unit {0}) Refusal). refused_choice.Post κs (code, (rate, (info, (limit, tt)))) r (code, (rate, (info, (limit, tt)))))
+    Once (λ (r : Result (Unit {0}) Refusal).
+    refused_choice.Post κs (code, (rate, (info, (limit, tt)))) r (code, (rate, (info, (limit, tt)))))
 decides_once κs code rate info limit r r' p q = says_tell _ r r' p.decided q.decided
 
 pub measures_once :

@@ -1,13 +1,8 @@
--- What the functions ask and ensure, in f32; the same over any kind of decoder is in crate `correlation`. Definitions
--- only.
+-- How the decoder holds its metrics, and what it asks of readings, in f32. Definitions only.
 use Rattle.std.specs.Prelude.{true, List, ◌≡◌, ℕ, Float}
 use Rattle.correlation.specs.Inner as any
 use Rattle.f32s.specs.Single.{zero32, finite}
-use Rattle.refusal.specs.Lent.{Lent}
 use Rattle.steps.specs.Holding.{Holding}
-use Rattle.trellis.specs.declared.ConvCode.{ConvCode}
-use Rattle.trellis.specs.declared.KeepPattern.{KeepPattern}
-use Rattle.trellis.specs.Choice.{keep_of}
 use Rattle.trellis.specs.Keep.{Keep}
 use Rattle.forward.specs.Sums.{soft}
 
@@ -29,12 +24,3 @@ floats_held =
       Room = λ (x : Float). Unit {0};
       After = λ (t : ℕ) (x : Float). Unit {0};
     }
-
--- `forward`
-pub record Runnable
-    (code : ConvCode) (half : ℕ) (keep : KeepPattern) (readings : List Float) (steps : ℕ) (rows : List ℕ) : Type 0 where
-  pub shaped : any.Runnable code half keep steps rows
-  pub used : UsedFinite (keep_of keep) steps readings
-
-abbrev pub Runs : ConvCode → Keep → (states steps : ℕ) → List Float → Float → Lent ℕ → Type 0
-Runs code p states steps readings r rows = any.Runs soft code p states steps readings r rows

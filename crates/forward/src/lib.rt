@@ -1,20 +1,16 @@
 // The block decoder of readings that are f32s, as a decoder of any kind: how it reads a place, and a turn of its steps.
 #![tactic(auto)]
 
-ghost use Rattle.std.specs.Prelude.{◌≡◌, ◌*◌};
-ghost use Rattle.f32s.specs.Single.{values_in, values_lent};
-ghost use Rattle.refusal.specs.Lent.{lent};
-ghost use Rattle.trellis.specs.Choice.{keep_of};
-ghost use Rattle.forward.specs.Inner.{Runnable, Runs};
+ghost use Rattle.std.specs.Prelude.{◌≡◌, length};
+ghost use Rattle.f32s.specs.Single.{values_in};
 
 use best_path::pair::Wing;
 use butterflies::butterfly;
 use butterflies::largest::{Largest, MARK, signed};
 use steps::{Decoder, Readings};
-use trellis::{ConvCode, KeepPattern};
 
 // Sums of f32s, of which the larger wins.
-struct Soft;
+pub struct Soft;
 
 impl Decoder for Soft {
     ghost use Rattle.f32s.specs.Single.{zero32};
@@ -48,9 +44,18 @@ impl Decoder for Soft {
 
 // Readings as they are received: floats and, behind them, those of bytes, four bytes each.
 #[derive(Clone, Copy)]
-struct Received<'a> {
-    floats: &'a [f32],
-    bytes: &'a [u8],
+pub struct Received<'a> {
+    pub floats: &'a [f32],
+    pub bytes: &'a [u8],
+}
+
+impl<'a> Received<'a> {
+    // How many there are.
+    pub fn count(self) -> usize
+        ensures { result ≡ length (values_in self.entry.floats.now self.entry.bytes.now) }
+    {
+        self.floats.len() + self.bytes.len() / 4
+    }
 }
 
 impl<'a> Readings<Soft> for Received<'a> {
@@ -63,22 +68,4 @@ impl<'a> Readings<Soft> for Received<'a> {
             0.0
         }
     }
-}
-
-// All steps, from state 0. The readings are those of floats and, behind them, those of bytes, four bytes each. The
-// survivors of each step go to a row of rows; answers state 0's last metric.
-pub fn forward(
-    code: ConvCode,
-    half: usize,
-    keep: KeepPattern,
-    floats: &[f32],
-    bytes: &[u8],
-    steps: usize,
-    rows: &mut [u8],
-) -> f32
-    requires { Runnable code half keep (values_in floats.now bytes.now) steps rows.old }
-    ensures { Runs code (keep_of keep) (2 * half) steps (values_lent floats bytes) result (lent rows) }
-{
-    let received = Received { floats, bytes };
-    steps::forward::<Soft, Received>(code, half, keep, &received, steps, rows)
 }

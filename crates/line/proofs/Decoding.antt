@@ -14,8 +14,7 @@ use lib.Pow.{pow_mono}
 use lib.Seq.{take_at}
 use Rattle.std.proofs.lemmas.List.{take_rest}
 use Rattle.correlation.proofs.Lengths.{length-word}
-use Rattle.std.specs.Prelude.{Result, Ok, Err, IsErrAnd}
-use Rattle.refusal.proofs.Told.{handed_on}
+use Rattle.std.specs.Prelude.{Result, Ok, Err}
 use Rattle.std.specs.Int.{w16, from_le_bytes}
 use Rattle.encoder.specs.Promise.{Decides}
 use Rattle.encoder.proofs.Checks.{choice_refused, choice_passes, choice_passes_wider, choice_few}
@@ -35,10 +34,6 @@ use Rattle.trellis.proofs.Chosen.{code_width}
 use Rattle.line.specs.Line.{most_info, most_survivors, shaped, code_in, rate_in, info_in, readings_in}
 use Rattle.line.specs.Line.{line_said, word_in, line_of, output}
 use Rattle.line.specs.Inner.{refusal_said}
-
--- what a `?` hands on is the refusal itself, of which its contract has two parts
-pub passed_on : {A X : Type 0} (r : Result A Refusal) (q : Refusal) → X × IsErrAnd r (λ e. e ≡ q) → r ≡ Err q
-passed_on r q (x, h) = handed_on r q h
 
 -- ---- the shape of the input
 

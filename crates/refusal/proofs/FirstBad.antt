@@ -124,7 +124,9 @@ module _ {E : Type 0} (is_good : E → Bool) where
       go false e = refl
 
   -- the first bad value, or none where all are good
-  answered : (xs : List E) → position (λ x. not (is_good x)) xs ≡ cond (ltb (first_bad is_good xs) (length xs)) (Some (first_bad is_good xs)) None
+  answered :
+      (xs : List E) →
+      position (λ x. not (is_good x)) xs ≡ cond (ltb (first_bad is_good xs) (length xs)) (Some (first_bad is_good xs)) None
   answered xs = ap (λ n. cond (ltb n (length xs)) (Some n) None) (sym (is_position xs))
 
   pub finds_bad : (xs : List E) (i : ℕ) → i < length xs → i ≡ first_bad is_good xs → FindsBad is_good xs (Some i)

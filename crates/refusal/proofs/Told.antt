@@ -2,7 +2,7 @@
 -- passed each test. Assumes nothing.
 use mathlib.Core.Bool.{Bool, true, false}
 use mathlib.Core.Path.{◌≡◌, refl, sym, ap, ap₂, ◌∙◌}
-use Rattle.std.specs.Prelude.{Result, Ok, Err, IsErrAnd}
+use Rattle.std.specs.Prelude.{Result, Ok, Err, IsErr, IsErrAnd}
 use mathlib.Core.List.{[], ◌∷◌}
 use Prim.Native.Nat.{ℕ, ◌-◌}
 use lib.ListN.{get_or}
@@ -54,9 +54,9 @@ pub numbers_tell : Telling Numbers
 numbers_tell said r r' p q = p ∙ sym q
 
 -- what a `?` hands on is the refusal itself
-pub handed_on : {A : Type 0} (r : Result A Refusal) (q : Refusal) → IsErrAnd r (λ e. e ≡ q) → r ≡ Err q
-handed_on (Ok a) q h = absurd h
-handed_on (Err e) q h = ap Err h
+pub handed_on : {A : Type 0} (r : Result A Refusal) (q : Refusal) → IsErr r × IsErrAnd r (λ e. e ≡ q) → r ≡ Err q
+handed_on (Ok a) q (fails, same) = absurd same
+handed_on (Err e) q (fails, same) = ap Err same
 
 -- ---- what is accepted
 

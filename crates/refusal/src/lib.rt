@@ -8,8 +8,8 @@ ghost use Rattle.refusal.specs.Answer.{number_of, place_of, answer_said, refused
 // The most info bits or symbols that one call may bring.
 pub const MOST: usize = 16384;
 
-// Why a call is refused: one row each of document 01's table, in its order. What is about a value of a list has the index
-// of the first bad one.
+// Why a call is refused: one row each of document 01's table, in its order. What is about a value of a list has the
+// index of the first bad one.
 #[derive(Clone, Copy, Debug, PartialEq, Eq)]
 pub enum Refusal {
     // The code number is no code's.

@@ -1,9 +1,8 @@
 -- Bytes read into a room behind those that stand there. Assumes nothing.
-use Rattle.std.proofs.Common.{◌≡◌, ℕ, ◌+◌, ◌≤◌, Option, List, ◌++◌, length, take, sym, ap, ◌∙◌, subst, le_refl, length-take-le}
+use Rattle.std.proofs.Common.{◌≡◌, ℕ, ◌+◌, ◌≤◌, Option, List, ◌++◌, length, take, sym, ap, ◌∙◌, subst, length-take-le}
 use Rattle.std.proofs.Math.Seq.{take-append-add, take-append-le}
-use Rattle.std.proofs.lemmas.Slice.{take-put_mid_below}
-use Rattle.std.proofs.KnownBytes.{Consumes-trans, Consumes-kept}
-use Rattle.std.specs.Io.KnownBytes.{Consumes, Keeps}
+use Rattle.std.proofs.KnownBytes.{Consumes-trans}
+use Rattle.std.specs.Io.KnownBytes.{Consumes}
 use borrow.Rule.Slice.PartMut.{put_mid, post_of}
 
 -- the front with n bytes of ys behind it, where ys was read to the room behind the front
@@ -18,18 +17,10 @@ front_more done k n xs ys within fits =
     ∙ take-append-add front behind n
     ∙ ap (λ (l : List ℕ). front ++ l) (take-append-le n ys (post_of done k xs) fits))
 
-module _ (before at after : Option (List ℕ)) (done k : ℕ) (xs ys : List ℕ) where
-  -- n bytes more were read
-  pub read_more :
-      (n : ℕ) → done ≤ length xs → n ≤ length ys → Consumes before at (take done xs) → Consumes at after (take n ys) →
-      Consumes before after (take (done + n) (put_mid done k xs ys))
-  read_more n within fits so_far read =
-      subst (Consumes before after) (front_more done k n xs ys within fits) (Consumes-trans before at after _ _ so_far read)
-
-  -- a read failed
-  pub read_none :
-      done ≤ length xs → Consumes before at (take done xs) → Keeps at after →
-      Consumes before after (take done (put_mid done k xs ys))
-  read_none within so_far kept =
-      subst (Consumes before after) (sym (take-put_mid_below done k xs ys done (le_refl done) within))
-      (Consumes-kept before at after _ so_far kept)
+-- n bytes more were read
+pub read_more :
+    (before at after : Option (List ℕ)) (done k : ℕ) (xs ys : List ℕ) (n : ℕ) → done ≤ length xs → n ≤ length ys →
+    Consumes before at (take done xs) → Consumes at after (take n ys) →
+    Consumes before after (take (done + n) (put_mid done k xs ys))
+read_more before at after done k xs ys n within fits so_far read =
+    subst (Consumes before after) (front_more done k n xs ys within fits) (Consumes-trans before at after _ _ so_far read)

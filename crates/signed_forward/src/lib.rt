@@ -1,20 +1,14 @@
 // The block decoder of signed bytes, as a decoder of any kind: how it reads a place, and a turn of its steps.
 #![tactic(auto)]
 
-ghost use Rattle.std.specs.Prelude.{◌≡◌, ◌*◌};
-ghost use Rattle.refusal.specs.Lent.{lent};
-ghost use Rattle.trellis.specs.Choice.{keep_of};
-ghost use Rattle.signed_forward.specs.Inner.{Runnable, Runs};
-
 use best_path::pair::Wing;
 use steps::{Decoder, Readings};
-use trellis::{ConvCode, KeepPattern};
 
 // −2^30: a state that was not reached starts here.
 const MARK: i32 = -1073741824;
 
 // Whole sums of 32 bits, of which the larger wins.
-struct Exact;
+pub struct Exact;
 
 impl Decoder for Exact {
     ghost use Rattle.std.specs.Prelude.{pos, refl};
@@ -55,19 +49,4 @@ impl<'a> Readings<Exact> for &'a [i8] {
         }
         0
     }
-}
-
-// All steps, from state 0. The survivors of each go to a row of rows; answers state 0's last metric.
-pub fn forward(
-    code: ConvCode,
-    half: usize,
-    keep: KeepPattern,
-    readings: &[i8],
-    steps: usize,
-    rows: &mut [u8],
-) -> i32
-    requires { Runnable code half keep readings.now steps rows.old }
-    ensures { Runs code (keep_of keep) (2 * half) steps readings.now result (lent rows) }
-{
-    steps::forward::<Exact, &[i8]>(code, half, keep, &readings, steps, rows)
 }

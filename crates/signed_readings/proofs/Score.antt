@@ -7,8 +7,6 @@ use Prim.Native.Nat.{ℕ, ◌*◌, ◌^◌, ◌≤◌, ◌<◌}
 use native.Mathlib.Omega.{arith}
 use lib.IntN.{ℤ}
 use lib.Signed.{lt_z}
-use mir.Syntax.{w32}
-use mir.Val.{to_z, of_z}
 use Rattle.best_path.specs.Path.{total}
 use Rattle.best_path.proofs.InfoWords.{best_info_word}
 use Rattle.correlation.specs.Decode as any
@@ -18,7 +16,6 @@ use Rattle.correlation.specs.Whole.{whole, exactly}
 use Rattle.refusal.specs.Lent.{Lent}
 use Rattle.signed_butterflies.specs.Held.{floor, total_of, Near}
 use Rattle.signed_butterflies.proofs.Near.{near_reached}
-use Rattle.signed_butterflies.proofs.Words.{small_fits, as_held}
 use Rattle.trellis.specs.declared.ConvCode.{ConvCode}
 use Rattle.trellis.specs.Codeword.{steps_of}
 use Rattle.trellis.specs.Keep.{Keep}
@@ -47,12 +44,11 @@ pub finds_score :
     {code : ConvCode} {p : Keep} {states info : ℕ} {readings : List ℤ} {r : ℤ} {out scratch : Lent ℕ} → 0 < code.width →
     254 * steps_of code info ≤ 2 ^ 28 → Near (254 * steps_of code info) r →
     inner.Finds exactly code p states info readings (total_of r) out scratch →
-    Finds code p states info readings (to_z w32 (of_z w32 r)) out scratch
+    Finds code p states info readings r out scratch
 finds_score {code} {p} {states} {info} {readings} {r} {out} {scratch} some few near finds =
     let known = reached_total (finds.scored ∙ score_counts code some p readings info) in
     let small = near_reached (254 * steps_of code info) few r near known.0 in
-    as_held (λ (z : ℤ). Finds code p states info readings z out scratch) r (small_fits r (omega (arith, small, few)))
-    (record {
+    record {
       found =
           record {
             scored = known.1 ∙ sym (score_counts code some p readings info);
@@ -60,4 +56,4 @@ finds_score {code} {p} {states} {info} {readings} {r} {out} {scratch} some few n
             survivors = finds.survivors;
           };
       small = small;
-    })
+    }

@@ -1,4 +1,4 @@
--- What the inner functions ask and ensure. Definitions only.
+-- What the inner functions ensure. Definitions only.
 use Rattle.std.specs.Prelude.{List, ◌≡◌, ℕ, ◌*◌, ◌≤◌, ◌<◌, ℤ, pos, nat_abs, length, get_or, Option, None}
 use Rattle.best_path.specs.Path.{total}
 use Rattle.correlation.specs.Inner as any
@@ -14,14 +14,7 @@ use Rattle.trellis.specs.Codeword.{steps_of}
 use Rattle.trellis.specs.Keep.{Keep}
 use Rattle.signed_readings.specs.Said.{is_reading}
 
--- `decode`: what a decoding asks, and used readings from −127 to 127
-pub record Decodable
-    (code : ConvCode) (half : ℕ) (keep : KeepPattern) (readings : List ℤ) (info : ℕ) (out scratch : List ℕ)
-    : Type 0 where
-  pub shaped : any.Decodable code half keep info out scratch
-  pub bytes : UsedBytes (keep_of keep) (steps_of code info) readings
-
--- `decode`: the score r, of at most 254 for each step, the word and the survivors
+-- what a decoding finds: the score r, of at most 254 for each step, the word and the survivors
 pub record Finds
     (code : ConvCode) (p : Keep) (states info : ℕ) (readings : List ℤ) (r : ℤ) (out scratch : Lent ℕ) : Type 0 where
   pub found : any.Finds exactly code p states info readings (total r) out scratch

@@ -2,36 +2,14 @@
 // and which code and keep pattern it runs. Nothing of it has a float, nor what it stands on.
 #![tactic(auto)]
 
-ghost use Rattle.std.specs.Prelude.{◌≡◌, ◌*◌};
 ghost use Rattle.refusal.specs.Answer.{Says};
 ghost use Rattle.refusal.specs.Lent.{lent};
-ghost use Rattle.trellis.specs.Choice.{keep_of};
 ghost use Rattle.signed_readings.specs.Promise.{Decodes};
-ghost use Rattle.signed_readings.specs.Inner.{Decodable, Finds, FirstLow};
+ghost use Rattle.signed_readings.specs.Inner.{FirstLow};
 
 use refusal::Refusal;
-use signed_forward::forward;
-use trellis::{ConvCode, KeepPattern};
-
-// All steps and the way back, for a code and a keep pattern. Answers the score; the word goes to the
-// front of out, the survivors to the front of scratch.
-fn decode(
-    code: ConvCode,
-    half: usize,
-    keep: KeepPattern,
-    readings: &[i8],
-    info: usize,
-    out: &mut [u8],
-    scratch: &mut [u8],
-) -> i32
-    requires { Decodable code half keep readings.now info out.old scratch.old }
-    ensures { Finds code (keep_of keep) (2 * half) info readings.now result (lent out) (lent scratch) }
-{
-    let steps = info + code.width;
-    let score = forward(code, half, keep, readings, steps, scratch);
-    best_path::trace(code, half, scratch, steps, 0, info, out);
-    score
-}
+use signed_forward::Exact;
+use steps::decode;
 
 // The place of refusal 12: the index of the first −128, if there is one. A loop: of signed numbers a chain of iterators
 // does not say that they are of eight bits.
@@ -62,11 +40,11 @@ pub fn viterbi_decode_signed_with(
         Some(low) => Err(Refusal::BadSignedByte(low as u32)),
         None => {
             let chosen = ready.chosen;
-            let score = decode(
+            let score = decode::<Exact, &[i8]>(
                 chosen.code,
                 ready.half,
                 chosen.keep,
-                readings,
+                &readings,
                 info,
                 out,
                 scratch,

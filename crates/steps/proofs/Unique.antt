@@ -5,6 +5,7 @@ use mathlib.Core.Path.{◌≡◌, sym, ◌∙◌}
 use denote.RattleType.{RattleType}
 use Rattle.steps.specs.declared.Decoder.{Ghosts}
 use Rattle.steps.proofs.forward.Reads as forward
+use Rattle.steps.proofs.decode.Reads as decode
 
 pub runs_once :
     (D R N : RattleType) (D_laws R_laws N_laws copied : _) (decoder : Ghosts D.Denot N.Denot)
@@ -16,3 +17,21 @@ pub runs_once :
     (decoder.held.value r ≡ decoder.held.value r') × (left.now ≡ left'.now)
 runs_once D R N D_laws R_laws N_laws copied decoder decoder_dict clones clones_dict source source_dict κs code half keep readings
     steps rows r r' left left' p q = (p.ran.last ∙ sym q.ran.last, p.ran.survivors ∙ sym q.ran.survivors)
+
+pub decodes_once :
+    (D R N : RattleType) (D_laws R_laws N_laws copied : _) (decoder : Ghosts D.Denot N.Denot)
+    (decoder_dict clones clones_dict source source_dict κs code half keep readings info out scratch : _)
+    (r r' left left' work work' : _) →
+    decode.Post D R N D_laws R_laws N_laws copied decoder decoder_dict clones clones_dict source source_dict κs
+    (code, (half, (keep, (readings, (info, (out, (scratch, tt))))))) r
+    (code, (half, (keep, (readings, (info, (left, (work, tt))))))) →
+    decode.Post D R N D_laws R_laws N_laws copied decoder decoder_dict clones clones_dict source source_dict κs
+    (code, (half, (keep, (readings, (info, (out, (scratch, tt))))))) r'
+    (code, (half, (keep, (readings, (info, (left', (work', tt))))))) →
+    (decoder.held.value r ≡ decoder.held.value r') × (left.now ≡ left'.now) × (work.now ≡ work'.now)
+decodes_once D R N D_laws R_laws N_laws copied decoder decoder_dict clones clones_dict source source_dict κs code half keep readings
+    info out scratch r r' left left' work work' p q = (
+      p.found.scored ∙ sym q.found.scored,
+      p.found.output ∙ sym q.found.output,
+      p.found.survivors ∙ sym q.found.survivors,
+    )

@@ -10,6 +10,7 @@ use Rattle.refusal.specs.Lent.{Lent}
 use Rattle.trellis.specs.declared.ConvCode.{ConvCode}
 use Rattle.trellis.specs.declared.KeepPattern.{KeepPattern}
 use Rattle.trellis.specs.Choice.{keep_of}
+use Rattle.trellis.specs.Codeword.{steps_of}
 use Rattle.trellis.specs.Keep.{Keep}
 use Rattle.steps.specs.Holding.{Holding}
 
@@ -100,3 +101,18 @@ module _ {N : Type 0} (held : Holding N) where
       (code : ConvCode) (p : Keep) (states steps : ℕ) (readings : List N) (r : N) (rows : Lent ℕ) : Type 0 where
     pub ran : any.Runs held.kind code p states steps readings (held.value r) rows
     pub after : held.After steps r
+
+  -- ---- the decoding
+
+  -- `decode`
+  pub record Decodable
+      (code : ConvCode) (half : ℕ) (keep : KeepPattern) (readings : List N) (info : ℕ) (out scratch : List ℕ)
+      : Type 0 where
+    pub shaped : any.Decodable code half keep info out scratch
+    pub used : UsedAsked (keep_of keep) (steps_of code info) readings
+
+  -- `decode`: what the score stands for, that it is a metric after all steps, the word and the survivors
+  pub record Finds
+      (code : ConvCode) (p : Keep) (states info : ℕ) (readings : List N) (r : N) (out scratch : Lent ℕ) : Type 0 where
+    pub found : any.Finds held.kind code p states info readings (held.value r) out scratch
+    pub after : held.After (steps_of code info) r

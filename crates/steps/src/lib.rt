@@ -1,5 +1,5 @@
-// All steps of a block decoder of readings, from state 0, whatever numbers they are: add, compare, select, with the
-// survivors of each step kept.
+// The decoding of a block of readings, whatever numbers they are: all steps from state 0, add, compare, select, with
+// the survivors of each step kept, and the way back over these.
 #![tactic(auto)]
 
 ghost use Rattle.std.specs.Prelude.{◌≡◌, ◌*◌, ◌^◌, ◌<◌, List, eqb};
@@ -9,6 +9,7 @@ ghost use Rattle.trellis.specs.Choice.{keep_of};
 ghost use Rattle.trellis.specs.Places.{value_of, filled};
 ghost use Rattle.steps.specs.Holding.{Holding, Sound};
 ghost use Rattle.steps.specs.Inner.{KeptAsked, Turnable, Turned, Steppable, SteppableOf, Steps, Runnable, Runs};
+ghost use Rattle.steps.specs.Inner.{Decodable, Finds};
 
 use best_path::pair::Wing;
 use trellis::{ConvCode, KeepPattern};
@@ -149,4 +150,25 @@ pub fn forward<D: Decoder, R: Readings<D>>(
         column = trellis::next_column(column, period);
     }
     pm[0]
+}
+
+// All steps and the way back. Answers the score; the word goes to the front of out, the survivors to the front of
+// scratch.
+pub fn decode<D: Decoder, R: Readings<D>>(
+    code: ConvCode,
+    half: usize,
+    keep: KeepPattern,
+    readings: &R,
+    info: usize,
+    out: &mut [u8],
+    scratch: &mut [u8],
+) -> D::Number
+    requires { Decodable D.held code half keep (R.readings readings.now) info out.old scratch.old }
+    ensures { Finds D.held code (keep_of keep) (2 * half) info (R.readings readings.now) result
+        (lent out) (lent scratch) }
+{
+    let steps = info + code.width;
+    let score = forward::<D, R>(code, half, keep, readings, steps, scratch);
+    best_path::trace(code, half, scratch, steps, 0, info, out);
+    score
 }

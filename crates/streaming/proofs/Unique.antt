@@ -70,13 +70,17 @@ pub new_once : (κs : _) → Once (λ (r : StreamingViterbi). new.Post κs tt r 
 new_once κs r r' p q = held_told r r' (p.state ∙ sym q.state)
 
 pub feed_symbol-once :
-    (κs d re im : _) → Once (λ (r : Answered (Result (Option ℕ) Refusal) StreamingViterbi). feed_symbol.Post κs (d, (re, (im, tt))) r (d, (re, (im, tt))))
+    (κs d re im : _) →
+    Once (λ (r : Answered (Result (Option ℕ) Refusal) StreamingViterbi).
+    feed_symbol.Post κs (d, (re, (im, tt))) r (d, (re, (im, tt))))
 feed_symbol-once κs d re im r r' p q =
     let (answer, state) = feeds_once Emits emits_tell (held d) re im r.answer r'.answer _ _ p q in
     ap₂ answered answer (held_told r.coder r'.coder state)
 
 pub flush_by_value_once :
-    (κs d out : _) → OnceLeft (λ (r : Answered (Result ℕ Refusal) StreamingViterbi) left. flush_by_value.Post κs (d, (out, tt)) r (d, (left, tt)))
+    (κs d out : _) →
+    OnceLeft (λ (r : Answered (Result ℕ Refusal) StreamingViterbi) left.
+    flush_by_value.Post κs (d, (out, tt)) r (d, (left, tt)))
 flush_by_value_once κs d out r r' left left' p q =
     let (answer, state, output) = flushes_once Says says_tell (held d) out.now r.answer r'.answer _ _ _ _ p q in
     (ap₂ answered answer (held_told r.coder r'.coder state), output)

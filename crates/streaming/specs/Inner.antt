@@ -23,7 +23,8 @@ pub record Advances (front : Front) (re im : Float) (r : Front) (history : Lent 
   pub state : state_of r history.left ≡ fed k5 lag (state_of front history.given) re im
 
 -- `feed_lent`, `flush_lent`: the promises of the entries, of a front and a history
-abbrev pub FeedsLent : Front → (re im : Float) → Answered (Result (Option ℕ) Refusal) Front → (history : Lent ℕ) → Type 0
+abbrev pub FeedsLent :
+    Front → (re im : Float) → Answered (Result (Option ℕ) Refusal) Front → (history : Lent ℕ) → Type 0
 FeedsLent front re im r history =
     Feeds (Emits r.answer) (state_of front history.given) (state_of r.coder history.left) re im
 

@@ -1,7 +1,7 @@
 -- A number's digits: eight hex digits, found the last first and put from the end of an array to its front, and decimal
 -- ones, the last behind those before it. Assumes nothing.
-use Rattle.std.proofs.Common.{◌≡◌, ℕ, zero, suc, ◌/◌, ◌%◌, ◌^◌, ◌≤◌, ◌<◌, List, [], ◌∷◌, ◌++◌, length, drop, set, replicate}
-use Rattle.std.proofs.Common.{Bool, true, false, cond, refl, sym, ap, ◌∙◌, append-nil, length-set, length-append, drop-cons, arith}
+use Rattle.std.proofs.Common.{◌≡◌, ℕ, zero, suc, ◌/◌, ◌%◌, ◌^◌, ◌≤◌, ◌<◌, List, [], ◌∷◌, ◌++◌, length, drop, set}
+use Rattle.std.proofs.Common.{Bool, true, false, cond, refl, sym, ap, ◌∙◌, length-set, length-append, drop-cons, arith}
 use Rattle.std.proofs.Common.{lit<, lit≤}
 use Rattle.std.proofs.Math.Seq.{drop-set-lt, get_or-set_same, append_snoc}
 use native.Mathlib.Decide.{dec_lt}
@@ -29,9 +29,6 @@ pub record HexLeft (n : ℕ) (digits : List ℕ) (rest i : ℕ) : Type 0 where
   pub turns : i ≤ 8
   pub size : length digits ≡ 8
   pub whole : hex_digits 8 n ≡ hex_digits i rest ++ drop i digits
-
-pub hex_starts : {n : ℕ} → HexLeft n (replicate 8 0) n 8
-hex_starts {n} = record { turns = omega arith; size = refl; whole = sym (append-nil (hex_digits 8 n)) }
 
 module _ {n : ℕ} {digits : List ℕ} {rest i : ℕ} (so_far : HexLeft n digits rest i) where
   pub hex_goes_on :

@@ -12,7 +12,7 @@ half_of-half-requires c = chosen_narrow c.choose-chosen.ensures
 
 pub returns-in_err-refused_choice : goal.returns-in_err-refused_choice
 returns-in_err-refused_choice c =
-    rw (handed_on c.from_residual.result _ c.from_residual.ensures.1)
+    rw (handed_on c.from_residual.result _ c.from_residual.ensures)
     (record { decided = refused_by_choice c.in_err-refused_choice.ensures _ _; ready = tt })
 
 pub returns-then-room-info : goal.returns-then-room-info

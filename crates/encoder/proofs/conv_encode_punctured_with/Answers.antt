@@ -9,7 +9,7 @@ use Rattle.encoder.proofs.conv_encode_punctured_with.Goals as goal
 
 pub returns-in_err-refused_choice : goal.returns-in_err-refused_choice
 returns-in_err-refused_choice c =
-    rw (handed_on c.from_residual.result _ c.from_residual.ensures.1)
+    rw (handed_on c.from_residual.result _ c.from_residual.ensures)
     (writes_refused (encode_refused c.in_err-refused_choice.ensures _) refl refl)
 
 pub overflow_add-steps : goal.overflow_add-steps

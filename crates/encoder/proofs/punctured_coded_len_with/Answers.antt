@@ -9,7 +9,7 @@ use Rattle.encoder.proofs.punctured_coded_len_with.Goals as goal
 
 pub returns-in_err-refused_choice : goal.returns-in_err-refused_choice
 returns-in_err-refused_choice c =
-    rw (handed_on c.from_residual.result _ c.from_residual.ensures.1) (sym (length-refused c.in_err-refused_choice.ensures))
+    rw (handed_on c.from_residual.result _ c.from_residual.ensures) (sym (length-refused c.in_err-refused_choice.ensures))
 
 pub overflow_add-info : goal.overflow_add-info
 overflow_add-info c =

@@ -2,7 +2,8 @@
 use Rattle.std.proofs.Common.{◌≡◌, sym, ◌∙◌}
 use Rattle.refusal.specs.Numbers.{bad_input}
 use Rattle.line.specs.Line.{info_in}
-use Rattle.line.proofs.Decoding.{passed_on, unshaped_said, output_refused, info_read}
+use Rattle.refusal.proofs.Told.{handed_on}
+use Rattle.line.proofs.Decoding.{unshaped_said, output_refused, info_read}
 use Rattle.line.proofs.Decoding.{called_behind, choice_output, refused_output, word_output}
 use Rattle.line.proofs.decoded_line.Goals as goal
 
@@ -13,7 +14,7 @@ returns-then-not-is_shaped c =
 pub returns-in_err-refused_choice : goal.returns-in_err-refused_choice
 returns-in_err-refused_choice c =
     let info : c.from-info.result ≡ info_in c.args.input.now = c.from-info.ensures ∙ c.from_le_bytes.ensures ∙ info_read _ _ in
-    rw (passed_on c.from_residual.result _ c.from_residual.ensures)
+    rw (handed_on c.from_residual.result _ c.from_residual.ensures)
     (choice_output
     record {
       is = sym c.is_shaped.ensures ∙ c.if-not-is_shaped.false;
@@ -27,7 +28,7 @@ returns-in_err-score c =
     let call =
     called_behind c.args.input.now record { is = is; decides = rw info at c.in_ok-refused_choice.ensures }
     (rw info at c.viterbi_decode_bytes.ensures.answer) in
-    rw (passed_on c.from_residual-in_err-score.result _ c.from_residual-in_err-score.ensures)
+    rw (handed_on c.from_residual-in_err-score.result _ c.from_residual-in_err-score.ensures)
     (refused_output call c.in_err-score.was)
 
 pub returns : goal.returns

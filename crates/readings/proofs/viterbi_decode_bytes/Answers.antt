@@ -3,10 +3,6 @@ use mathlib.Core.Path.{sym}
 use Rattle.f32s.proofs.AllBytes.{length-all}
 use Rattle.readings.proofs.viterbi_decode_bytes.Goals as goal
 
-pub decode_readings-requires : goal.decode_readings-requires
-decode_readings-requires c =
-    sym (length-all c.args.bytes.now)
-
 pub returns : goal.returns
 returns c =
     c.decode_readings.ensures

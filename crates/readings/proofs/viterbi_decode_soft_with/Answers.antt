@@ -5,11 +5,6 @@ use lib.ListN.{length}
 use Rattle.f32s.specs.Single.{all_of_bytes}
 use Rattle.readings.proofs.viterbi_decode_soft_with.Goals as goal
 
-pub decode_readings-requires : goal.decode_readings-requires
-unfolding all_of_bytes
-decode_readings-requires c =
-    sym (ap length (append-nil c.args.readings.now))
-
 pub returns : goal.returns
 unfolding all_of_bytes
 returns c =

@@ -10,7 +10,7 @@ use Rattle.symbols.proofs.viterbi_decode_hard.Goals as goal
 
 pub returns-in_err-refused_room : goal.returns-in_err-refused_room
 returns-in_err-refused_room c =
-    rw (handed_on c.from_residual.result _ c.from_residual.ensures.1)
+    rw (handed_on c.from_residual.result _ c.from_residual.ensures)
     (both_refused (hard_refused _ _ _ _ c.in_err-refused_room.ensures) refl refl refl)
 
 pub decode-requires : goal.decode-requires
