@@ -24,15 +24,11 @@ pub fn trace(
 {
     let states = 2 * half;
     let mut s = last;
-    let mut i = steps;
-    let mut at = steps * states;
-    while 0 < i {
-        i -= 1;
-        at -= states;
+    for i in (0..steps).rev() {
         if i < info {
             out[i] = input_into(half, s);
         }
-        s = rows[at + s] as usize;
+        s = rows[i * states + s] as usize;
     }
 }
 
