@@ -36,5 +36,5 @@ pub fn trace(
 fn input_into(half: usize, s: usize) -> u8
     ensures { result ≡ cond (ltb s half) 0 1 }
 {
-    if s < half { 0 } else { 1 }
+    u8::from(half <= s)
 }
