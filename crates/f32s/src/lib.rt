@@ -7,6 +7,8 @@ ghost use Rattle.std.specs.Float.Ieee.{to_bits};
 ghost use Rattle.f32s.specs.Single.{zero32, finite, within, of_bytes, values_in, values_lent};
 ghost use Rattle.f32s.specs.Inner.{of_four, Fills};
 
+use std::num::{f32_from_bits_with_nan, f32_to_bits_with_nan};
+
 // Neither NaN nor infinite.
 #[tactic(auto, using(crate::proofs::Patterns::finite_is))]
 pub fn is_finite(x: f32) -> bool
@@ -27,14 +29,11 @@ pub fn from_bytes(b0: u8, b1: u8, b2: u8, b3: u8) -> f32
     ensures { result ≡ of_bytes b0 b1 b2 b3 }
 {
     let bits = u32::from_le_bytes([b0, b1, b2, b3]);
-    if 0x7f80_0000 < bits % 0x8000_0000 {
-        f32::NAN
-    } else {
-        f32::from_bits(bits)
-    }
+    f32_from_bits_with_nan(bits)
 }
 
 // Is the f32 of four bytes neither NaN nor infinite? By the bits, without making it: the exponent's are not all ones.
+#[tactic(auto, using(crate::proofs::Patterns::finite_pattern))]
 fn are_finite(bytes: [u8; 4]) -> bool
     ensures { result ≡ finite (of_four bytes) }
 {
@@ -89,9 +88,8 @@ pub fn from_all_bytes(bytes: &[u8], values: &mut [f32]) -> usize
 }
 
 // The bits of an f32; a NaN's are always the same.
-#[tactic(auto, using(crate::proofs::Patterns::nan_bits_of))]
 pub fn bits_of(x: f32) -> u32
     ensures { result ≡ to_bits binary32 x }
 {
-    if x.is_nan() { 0x7fc0_0000 } else { x.to_bits() }
+    f32_to_bits_with_nan(x)
 }

@@ -1,4 +1,4 @@
--- `f32s::finite_in`: the three places where a value can be. Assumes nothing.
+-- `f32s::finite_in`: a value among the bytes, and one that is missing. Assumes nothing.
 use mathlib.Core.Path.{ap, ◌∙◌}
 use native.Mathlib.Omega.{arith}
 use Rattle.f32s.specs.Single.{zero32, finite}

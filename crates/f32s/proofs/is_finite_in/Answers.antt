@@ -1,4 +1,4 @@
--- `f32s::is_finite_in`: the two places where a value can be. Assumes nothing.
+-- `f32s::is_finite_in`: a value among the bytes. Assumes nothing.
 use mathlib.Core.Path.{ap, ◌∙◌}
 use native.Mathlib.Omega.{arith}
 use Rattle.f32s.specs.Single.{zero32, finite}
