@@ -5,7 +5,7 @@ use mathlib.Core.List.{List, [], ◌∷◌, ◌++◌, append_assoc}
 use mathlib.Core.Path.{◌≡◌, refl, sym, ap, subst, ◌∙◌}
 use Prim.Native.Nat.{ℕ, zero, suc, ◌+◌, ◌-◌, ◌*◌, ◌/◌, ◌≤◌, ◌<◌}
 use native.Mathlib.Decide.{le_ind, dec_lt}
-use native.Mathlib.Nat.{suc-mul, div-eq_of_lt}
+use native.Mathlib.Nat.{div-eq_of_lt}
 use native.Mathlib.Omega.{arith}
 use borrow.Author.Tests.{lt-ltb, le-ltb}
 use lib.Arith.{digits_lt, digits_div}
@@ -119,67 +119,53 @@ module _ (half : ℕ) (rows : List ℕ) (info : ℕ) where
 
 -- ---- turn by turn
 
--- The invariant: i rows are left to walk over, the last of which ends at `at`, from the state s; the list is as long as it was,
--- and what is left to be done comes to the same as at the start.
-pub record Walked (half : ℕ) (rows : List ℕ) (steps last info : ℕ) (old out : List ℕ) (s i at : ℕ) : Type 0 where
+-- The invariant: i rows are left to walk over, from the state s; the list is as long as it was, and what is left to be done comes
+-- to the same as at the start.
+pub record Walked (half : ℕ) (rows : List ℕ) (steps last info : ℕ) (old out : List ℕ) (s i : ℕ) : Type 0 where
   pub within : i ≤ steps
   pub state : s < 2 * half
-  pub place : at ≡ i * (2 * half)
   pub size : length out ≡ length old
   pub same : left half rows info i s out ≡ left half rows info steps last old
 
 module _
     {code : ConvCode} {half : ℕ} {rows : List ℕ} {steps last info room : ℕ} (can : Traceable code half rows steps last info room)
   where
-    pub walked_starts : {old : List ℕ} → Walked half rows steps last info old old last steps (steps * (2 * half))
-    walked_starts = record { within = omega arith; state = can.state; place = refl; size = refl; same = refl }
+    pub walked_starts : {old : List ℕ} → Walked half rows steps last info old old last steps
+    walked_starts = record { within = omega arith; state = can.state; size = refl; same = refl }
 
-    module _ {old out : List ℕ} {s i at : ℕ} (now : Walked half rows steps last info old out s i at) where
+    module _ {old out : List ℕ} {s i : ℕ} (now : Walked half rows steps last info old out s i) where
       -- nothing is left
       pub walked_ends :
           i ≤ 0 → info ≤ length old → out ≡ spelled code half rows steps last info ++ drop info old
       walked_ends none fits =
           sym (left_none half rows info s out i none) ∙ now.same ∙ left_way half rows info code steps last room can old fits
 
-      -- a turn: where the row that it reads begins, and that the rows hold the state's byte in it
+      -- a turn: the rows hold the state's byte in the row that it reads
       module _ (some : 0 < i) where
-        pub row_begins : at ≡ (i - 1) * (2 * half) + 2 * half
-        row_begins =
-            let one_more : i ≡ suc (i - 1) = omega arith in
-            now.place ∙ ap (λ (j : ℕ). j * (2 * half)) one_more ∙ suc-mul (i - 1) (2 * half)
-
-        pub row_holds : at - 2 * half + s < steps * (2 * half)
-        row_holds =
-            let among : (i - 1) * (2 * half) + s < steps * (2 * half) = digits_lt (omega (arith, now.within)) now.state in
-            omega (arith, row_begins)
-
-        survivor_read : get_or rows (at - 2 * half + s) 0 ≡ survivor half rows info (i - 1) s
-        survivor_read = ap (λ (n : ℕ). get_or rows (n + s) 0) (omega (arith, row_begins))
-
-        back : suc (i - 1) ≡ i
-        back = omega arith
+        pub row_holds : (i - 1) * (2 * half) + s < steps * (2 * half)
+        row_holds = digits_lt (omega (arith, now.within)) now.state
 
         goes_on :
             {new : List ℕ} → length new ≡ length out →
             left half rows info (i - 1) (survivor half rows info (i - 1) s) new ≡ left half rows info (suc (i - 1)) s out →
-            Walked half rows steps last info old new (get_or rows (at - 2 * half + s) 0) (i - 1) (at - 2 * half)
+            Walked half rows steps last info old new (survivor half rows info (i - 1) s) (i - 1)
         goes_on {new} sized e =
+            let back : suc (i - 1) ≡ i = omega arith in
             record {
               within = omega (arith, now.within);
               state = can.states _ row_holds;
-              place = omega (arith, row_begins);
               size = sized ∙ now.size;
-              same = rw survivor_read (e ∙ ap (λ (j : ℕ). left half rows info j s out) back ∙ now.same);
+              same = e ∙ ap (λ (j : ℕ). left half rows info j s out) back ∙ now.same;
             }
 
         -- it stores the input, or passes by in the tail
         pub walked_writes :
             {new : List ℕ} {v : ℕ} → i - 1 < info → v ≡ top_bit half s → new ≡ set out (i - 1) v →
-            Walked half rows steps last info old new (get_or rows (at - 2 * half + s) 0) (i - 1) (at - 2 * half)
+            Walked half rows steps last info old new (get_or rows ((i - 1) * (2 * half) + s) 0) (i - 1)
         walked_writes {new} {v} h e f =
             goes_on (ap length f ∙ length-set out (i - 1) v) (rw (f, e) (written half rows info (i - 1) s out h))
 
         pub walked_passes :
             {new : List ℕ} → info ≤ i - 1 → new ≡ out →
-            Walked half rows steps last info old new (get_or rows (at - 2 * half + s) 0) (i - 1) (at - 2 * half)
+            Walked half rows steps last info old new (get_or rows ((i - 1) * (2 * half) + s) 0) (i - 1)
         walked_passes h f = goes_on (ap length f) (rw f (passed half rows info (i - 1) s out h))

@@ -26,15 +26,11 @@ pub fn trace(
 {
     let states = 2 * half;
     let mut s = last;
-    let mut i = steps;
-    let mut at = steps * states;
-    while 0 < i {
-        i -= 1;
-        at -= states;
+    for i in (0..steps).rev() {
         if i < info {
             out[i] = input_into(half, s);
         }
-        s = rows[at + s] as usize;
+        s = rows[i * states + s] as usize;
     }
 }
 
@@ -42,5 +38,5 @@ pub fn trace(
 fn input_into(half: usize, s: usize) -> u8
     ensures { result ≡ cond (ltb s half) 0 1 }
 {
-    if s < half { 0 } else { 1 }
+    u8::from(half <= s)
 }

@@ -6,8 +6,8 @@ use native.Mathlib.Numerals.{add-one}
 use native.Mathlib.Nat.{zero-add}
 use native.Mathlib.Omega.{arith}
 use lib.Ieee.{Float, nan, binary32, of_bits}
-use lib.ListN.{length, get_or, set, take, drop, length-append, length-take, length-set, get_or-append, get_or-eq_default}
-use lib.Seq.{get_or-append-add, get_or-take, take-length, paste, paste-suc, paste-zero}
+use lib.ListN.{length, get_or, set, take, drop, length-append, length-take, length-set, get_or-eq_default}
+use lib.Seq.{get_or-append-add, get_or-take, take-length, paste, paste-suc}
 use Rattle.std.specs.Int.{w32, from_le_bytes}
 use Rattle.std.specs.Simd.{first_chunks}
 use Rattle.std.proofs.lemmas.List.{get_or-map}
@@ -54,11 +54,6 @@ all-fours (b0 ∷ b1 ∷ b2 ∷ b3 ∷ rest) =
 
 -- ---- behind others
 
-default_unseen : (xs : List Float) (i : ℕ) (d d' : Float) → i < length xs → get_or xs i d ≡ get_or xs i d'
-default_unseen [] i d d' h = absurd (omega (arith, h))
-default_unseen (x ∷ xs) zero d d' h = refl
-default_unseen (x ∷ xs) (suc i) d d' h = default_unseen xs i d d' (omega arith)
-
 pub length-values : (floats : List Float) (bytes : List ℕ) → length (values_in floats bytes) ≡ length floats + length bytes / 4
 length-values floats bytes = length-append floats (all_of_bytes bytes) ∙ ap (λ (n : ℕ). length floats + n) (length-all bytes)
 
@@ -66,9 +61,6 @@ length-values floats bytes = length-append floats (all_of_bytes bytes) ∙ ap (�
 module _ (floats : List Float) (bytes : List ℕ) (i : ℕ) (d : Float) where
   abbrev value : Float
   value = get_or (values_in floats bytes) i d
-
-  pub value_before : (d' : Float) → i < length floats → get_or floats i d' ≡ value
-  value_before d' h = default_unseen floats i d' d h ∙ sym (get_or-append floats (all_of_bytes bytes) d i h)
 
   pub value_behind :
       {pieces : List (List ℕ)} → pieces ≡ fours bytes → length floats ≤ i → i - length floats < length bytes / 4 →
@@ -99,9 +91,6 @@ pub record Copied (bytes : List ℕ) (old : List Float) (count : ℕ) (values : 
   pub turns : i ≤ count
   pub size : length values ≡ length old
   pub front : values ≡ copied bytes old i
-
-pub copied_starts : {bytes : List ℕ} {old : List Float} {count : ℕ} → Copied bytes old count old 0
-copied_starts {bytes} {old} = record { turns = omega arith; size = refl; front = paste-zero old 0 (new bytes old) }
 
 module _
     {bytes : List ℕ} {old : List Float} {count : ℕ} {values : List Float} {i : ℕ} (now : Copied bytes old count values i)

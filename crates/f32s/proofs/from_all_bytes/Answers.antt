@@ -1,9 +1,6 @@
 -- `f32s::from_all_bytes`: the laws of a turn at what is known there. Assumes nothing.
-use Rattle.f32s.proofs.AllBytes.{copied_starts, copied_goes_on, copied_ends}
+use Rattle.f32s.proofs.AllBytes.{copied_goes_on, copied_ends}
 use Rattle.f32s.proofs.from_all_bytes.Goals as goal
-
-pub loop-i-init : goal.loop-i-init
-loop-i-init c = copied_starts
 
 pub loop-i-preserved : goal.loop-i-preserved
 loop-i-preserved c =
