@@ -8,7 +8,7 @@ ghost use Rattle.trellis.specs.Choice.{keep_of};
 ghost use Rattle.forward.specs.Inner.{Runnable, Runs};
 
 use best_path::pair::Wing;
-use butterflies::butterfly;
+use best_path::select::butterfly;
 use butterflies::largest::{Largest, MARK, signed};
 use steps::{Decoder, Readings};
 use trellis::{ConvCode, KeepPattern};

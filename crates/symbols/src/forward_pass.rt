@@ -8,7 +8,7 @@ ghost use Rattle.symbols.specs.Inner.{half, Steppable, Selects, compared, LeastI
 ghost use Rattle.symbols.specs.Inner.{components, Symbols, symbol_at, Runnable, Runs};
 
 use crate::phasors::{Phasor, cost_of_pair, phasor_of, prices_of};
-use butterflies::butterfly;
+use best_path::select::butterfly;
 use butterflies::smallest::{MARK, Smallest};
 use trellis::ConvCode;
 
