@@ -16,7 +16,7 @@ use Rattle.trellis.specs.State.{window, parity_of}
 use Rattle.trellis.proofs.States.{states_two_halves}
 use Rattle.butterflies.specs.Smallest.{smallest}
 use Rattle.symbols.specs.Costs.{cost, costs, phasor_of}
-use Rattle.symbols.specs.Inner.{half, Priced, pair_cost, new_mets, Selects}
+use Rattle.symbols.specs.Inner.{half, Priced, pair_cost, opposite, new_mets, Selects}
 use Rattle.symbols.specs.declared.phasors.Prices.{Prices}
 use Rattle.symbols.proofs.Prices.{pair_cost_lem, opposite_cost}
 
@@ -57,8 +57,7 @@ module _
   -- a turn, by what the calls in it say
   pub turns_go_on :
       n < half → {r : Prices} → Priced re im r → {x y : Float} →
-      x ≡ pair_cost (get_or c0 n 0) (get_or c1 n 0) r.of_00 r.of_01 r.of_10 r.of_11 →
-      y ≡ pair_cost (get_or c0 n 0) (get_or c1 n 0) r.of_11 r.of_10 r.of_01 r.of_00 →
+      x ≡ pair_cost (get_or c0 n 0) (get_or c1 n 0) r → y ≡ pair_cost (get_or c0 n 0) (get_or c1 n 0) (opposite r) →
       {w : Wing Float} → Summed (floats_held smallest) (get_or pm (2 * n) nan) (get_or pm (2 * n + 1) nan) s x y w →
       {next' : List Float} {row' : List ℕ} →
       next' ≡ set (set next n w.low.met) (n + half) w.high.met →
