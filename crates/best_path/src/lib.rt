@@ -1,11 +1,12 @@
-// What the decoders share: the way back over rows of survivors, which spells the word, for any code. The rest of
-// this crate is definitions and laws over any metric and any code.
+// What the decoders share: what two states lead to, by metrics of any kind, and the way back over rows of survivors,
+// which spells the word, for any code. The rest of this crate is definitions and laws over any metric and any code.
 #![tactic(auto)]
 
 ghost use Rattle.std.specs.Prelude.{cond, ◌++◌, ◌≡◌, ltb, length, drop};
 ghost use Rattle.best_path.specs.Rows.{spelled, Traceable};
 
 pub mod pair;
+pub mod select;
 
 use trellis::ConvCode;
 

@@ -1,3 +1,2 @@
--- Coded: an order as the code has it. Unique: each contract allows one outcome at most.
-pub mod Coded
+-- Unique: each contract allows one outcome at most.
 pub mod Unique

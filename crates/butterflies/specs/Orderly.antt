@@ -1,9 +1,25 @@
--- What an order of f32 metrics is asked, so that a branch needs no test of its own. Definitions only.
-use Rattle.std.specs.Prelude.{false, cond, ◌≡◌, Float}
+-- An order of f32 metrics: a metric stands for itself, any has room for more, and a state that was not reached sends a
+-- NaN. What such an order is asked, so that a branch needs no test of its own. Definitions only.
+use Rattle.std.specs.Prelude.{false, cond, ◌≡◌, ℕ, Float}
 use Rattle.std.specs.Float.{binary32, nan}
 use Rattle.std.specs.Float.Ieee.{add}
 use Rattle.best_path.specs.Metric.{Metric}
+use Rattle.best_path.specs.Pair.{Held}
 use Rattle.best_path.proofs.Candidates.{Strict}
+
+abbrev pub floats_held : Metric Float Float → Held Float
+floats_held op =
+    record {
+      Value = Float;
+      value = λ (m : Float). m;
+      op = op;
+      better = op.better;
+      candidate = λ (m x : Float). add binary32 (cond (op.better m op.mark) m nan) x;
+      Small = λ (x : Float). Unit {0};
+      Near = λ (bound : ℕ) (m : Float). Unit {0};
+      limit = 0;
+      reach = 0;
+    }
 
 pub record Orderly (op : Metric Float Float) : Type 0 where
   -- better is transitive, and the mark is not better than itself

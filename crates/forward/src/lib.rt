@@ -5,7 +5,7 @@ ghost use Rattle.std.specs.Prelude.{◌≡◌, length};
 ghost use Rattle.f32s.specs.Single.{values_in};
 
 use best_path::pair::Wing;
-use butterflies::butterfly;
+use best_path::select::butterfly;
 use butterflies::largest::{Largest, MARK, signed};
 use steps::{Decoder, Readings};
 

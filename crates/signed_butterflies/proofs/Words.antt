@@ -1,11 +1,10 @@
 -- Signed numbers in 32 bits: what the machine reads back is what was written, where it fits; and sums that fit. Assumes nothing.
-use mathlib.Core.Bool.{Bool}
 use mathlib.Core.Path.{◌≡◌, sym, ap, ap₂, subst, ◌∙◌}
 use Prim.Native.Nat.{◌^◌, ◌≤◌, ◌<◌}
 use native.Mathlib.Nat.{le_refl}
 use native.Mathlib.Omega.{arith}
 use lib.IntN.{ℤ, pos, negsuc, neg_ℤ, nat_abs, ◌+ℤ◌, ◌-ℤ◌, +ℤ_idl}
-use lib.Signed.{lt_z, mag}
+use lib.Signed.{mag}
 use mir.Syntax.{w8, w32}
 use mir.Val.{SFits, hbits, to_z, of_z}
 use mir.ValLaws.{to_z-of_z}
@@ -22,14 +21,6 @@ small_fits z h = record { sfits = omega (arith, mag_abs z) }
 
 pub back : (z : ℤ) → SFits w32 z → to_z w32 (of_z w32 z) ≡ z
 back = to_z-of_z w32
-
--- a test of two numbers, and of one with a constant
-pub below_back :
-    (x y : ℤ) (b : Bool) → SFits w32 x → SFits w32 y → lt_z (to_z w32 (of_z w32 x)) (to_z w32 (of_z w32 y)) ≡ b → lt_z x y ≡ b
-below_back x y b f g h = sym (ap₂ lt_z (back x f) (back y g)) ∙ h
-
-pub below_const : (x y : ℤ) (b : Bool) → SFits w32 x → lt_z (to_z w32 (of_z w32 x)) y ≡ b → lt_z x y ≡ b
-below_const x y b f h = sym (ap (λ (z : ℤ). lt_z z y) (back x f)) ∙ h
 
 -- a sum of two numbers
 module _ (x y : ℤ) (f : SFits w32 x) (g : SFits w32 y) where
@@ -67,9 +58,6 @@ module _ (z : ℤ) (known : mag z < 2 ^ hbits w8) where
 
   wide_fits : SFits w32 z
   wide_fits = record { sfits = omega (arith, known) }
-
-  pub widened_fits : SFits w32 (to_z w8 (of_z w8 z))
-  widened_fits = subst (SFits w32) (sym (to_z-of_z w8 z byte_fits)) wide_fits
 
   pub widened : to_z w32 (of_z w32 (to_z w8 (of_z w8 z))) ≡ z
   widened = ap (λ (x : ℤ). to_z w32 (of_z w32 x)) (to_z-of_z w8 z byte_fits) ∙ back z wide_fits

@@ -1,8 +1,8 @@
 -- Metrics as the code holds them, in 32 bits, and what the functions ask and ensure. Which total a metric stands for is
 -- `total_of`; that no sum overflows comes of `Near`. Definitions only.
-use Rattle.std.specs.Prelude.{cond, ◌⊎◌, ◌≡◌, ℕ, ◌+◌, ◌^◌, ◌≤◌, ◌<◌, eqb, ℤ, pos, negsuc, neg_ℤ, nat_abs, ◌+ℤ◌, ◌-ℤ◌}
+use Rattle.std.specs.Prelude.{cond, ◌⊎◌, ℕ, ◌^◌, ◌≤◌, ◌<◌, eqb, ℤ, pos, negsuc, neg_ℤ, nat_abs, ◌+ℤ◌, ◌-ℤ◌}
 use Rattle.std.specs.Int.Signed.{lt_z}
-use Rattle.best_path.specs.Inner.{LedTo}
+use Rattle.best_path.specs.Pair as any
 use Rattle.best_path.specs.Path.{Total, none, total, wholes}
 use Rattle.best_path.specs.Step.{Cell}
 use Rattle.best_path.specs.declared.pair.NewState.{NewState}
@@ -28,6 +28,14 @@ pub record Gained (g : ℤ) : Type 0 where
 abbrev pub floor : ℤ
 floor = negsuc 536870911
 
+-- so of the two this is not better
+abbrev pub under_floor : ℤ
+under_floor = negsuc 536870912
+
+-- the least number of 32 bits
+abbrev pub least : ℤ
+least = negsuc 2147483647
+
 -- the total that a metric stands for
 unfoldable pub total_of : ℤ → Total
 total_of x = cond (lt_z x floor) none (total x)
@@ -40,31 +48,30 @@ pub record Near (bound : ℕ) (x : ℤ) : Type 0 where
 abbrev pub Room : ℤ → Type 0
 Room x = Near (2 ^ 28) x
 
--- ---- the functions
+-- a step takes a metric no further than two readings are
+abbrev pub wholes_held : any.Held ℤ
+wholes_held =
+    record {
+      Value = Total;
+      value = total_of;
+      op = wholes;
+      better = λ (x z : ℤ). lt_z z x;
+      candidate = λ (m x : ℤ). m +ℤ x;
+      Small = Gained;
+      Near = Near;
+      limit = 2 ^ 28;
+      reach = 254;
+    }
 
--- `best_of`: the larger of two sums, the first among equals; no state where it stands for no total
-pub record BestOf (x0 x1 : ℤ) (s : ℕ) (r : NewState ℤ) : Type 0 where
-  pub met : r.met ≡ cond (lt_z x0 x1) x1 x0
-  pub from : r.from ≡ cond (lt_z (cond (lt_z x0 x1) x1 x0) floor) 0 (cond (lt_z x0 x1) (s + 1) s)
+-- ---- the functions
 
 -- a new state as the code holds it
 abbrev pub cell_of : NewState ℤ → Cell Total
 cell_of z = record { met = total_of z.met; from = z.from }
 
--- `butterfly`: room for the four sums
-pub record Summable (m0 m1 : ℤ) (s : ℕ) (x y : ℤ) : Type 0 where
-  pub state : s < 255
-  pub even : Room m0
-  pub odd : Room m1
-  pub first : Gained x
-  pub second : Gained y
-
--- `butterfly`: the states s and s + 1, of metrics m0 and m1, on either input; the new metrics are not much larger
-pub record Summed (m0 m1 : ℤ) (s : ℕ) (x y : ℤ) (r : Wing ℤ) : Type 0 where
-  pub led : LedTo wholes (total_of m0) (total_of m1) s x y (cell_of r.low) (cell_of r.high)
-  pub near :
-      (bound : ℕ) → bound ≤ 2 ^ 28 → Near bound m0 → Near bound m1 →
-      Near (bound + 254) r.low.met × Near (bound + 254) r.high.met
+-- the states s and s + 1, of metrics m0 and m1, on either input; the new metrics are not much larger
+abbrev pub Summed : (m0 m1 : ℤ) (s : ℕ) (x y : ℤ) → Wing ℤ → Type 0
+Summed m0 m1 s x y r = any.Summed wholes_held m0 m1 s x y r
 
 -- `turn`: two readings, and room for the sums with them
 pub record Turnable (a b m0 m1 : ℤ) (s : ℕ) : Type 0 where

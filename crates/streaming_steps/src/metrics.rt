@@ -7,7 +7,7 @@ ghost use Rattle.streaming_steps.specs.Inner.{SelectsNew, NormalisedAfter};
 
 use crate::Front;
 use crate::sent::{SENT0, SENT1};
-use butterflies::better_of;
+use best_path::select::better_of;
 use butterflies::smallest::{MARK, Smallest};
 use symbols::forward_pass::step;
 

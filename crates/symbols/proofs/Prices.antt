@@ -6,7 +6,7 @@ use native.Mathlib.Omega.{arith}
 use lib.Ieee.{Float, binary32, of_bits, neg}
 use Rattle.f32s.specs.Single.{zero32}
 use Rattle.symbols.specs.Costs.{cost, phasor_of}
-use Rattle.symbols.specs.Inner.{Priced, pair_cost}
+use Rattle.symbols.specs.Inner.{Priced, pair_cost, opposite}
 use Rattle.symbols.specs.declared.phasors.Prices.{Prices}
 
 -- the phasors of 01 and 11 have a -1, which the code holds as its bits
@@ -21,7 +21,7 @@ phasor_11 = refl
 module _ (re im : Float) (r : Prices) (priced : Priced re im r) where
   pub pair_cost_lem :
       (c0 c1 : ℕ) → c0 < 2 → c1 < 2 →
-      pair_cost c0 c1 r.of_00 r.of_01 r.of_10 r.of_11 ≡ cost re im (phasor_of c0 c1)
+      pair_cost c0 c1 r ≡ cost re im (phasor_of c0 c1)
   pair_cost_lem zero zero h g = priced.of_00
   pair_cost_lem zero (suc zero) h g = priced.of_01
   pair_cost_lem zero (suc (suc c1)) h g = absurd (omega arith)
@@ -32,7 +32,7 @@ module _ (re im : Float) (r : Prices) (priced : Priced re im r) where
 
   pub opposite_cost :
       (c0 c1 : ℕ) → c0 < 2 → c1 < 2 →
-      pair_cost c0 c1 r.of_11 r.of_10 r.of_01 r.of_00 ≡ cost re im (phasor_of (1 - c0) (1 - c1))
+      pair_cost c0 c1 (opposite r) ≡ cost re im (phasor_of (1 - c0) (1 - c1))
   opposite_cost zero zero h g = priced.of_11
   opposite_cost zero (suc zero) h g = priced.of_10
   opposite_cost zero (suc (suc c1)) h g = absurd (omega arith)

@@ -7,7 +7,8 @@ use native.Mathlib.Omega.{arith}
 use lib.Ieee.{Float, nan}
 use lib.ListN.{length, get_or, set, drop_of_length-le}
 use Rattle.best_path.specs.declared.pair.Wing.{Wing}
-use Rattle.best_path.specs.Inner.{Winged}
+use Rattle.best_path.specs.Pair.{Summed}
+use Rattle.butterflies.specs.Orderly.{floats_held}
 use Rattle.best_path.proofs.Turns.{Paired, paired_starts, paired_mets, paired_froms, paired_goes_on}
 use Rattle.trellis.specs.declared.ConvCode.{ConvCode}
 use Rattle.trellis.specs.Inner.{Crossed}
@@ -15,7 +16,7 @@ use Rattle.trellis.specs.State.{window, parity_of}
 use Rattle.trellis.proofs.States.{states_two_halves}
 use Rattle.butterflies.specs.Smallest.{smallest}
 use Rattle.symbols.specs.Costs.{cost, costs, phasor_of}
-use Rattle.symbols.specs.Inner.{half, Priced, pair_cost, new_mets, Selects}
+use Rattle.symbols.specs.Inner.{half, Priced, pair_cost, opposite, new_mets, Selects}
 use Rattle.symbols.specs.declared.phasors.Prices.{Prices}
 use Rattle.symbols.proofs.Prices.{pair_cost_lem, opposite_cost}
 
@@ -56,18 +57,17 @@ module _
   -- a turn, by what the calls in it say
   pub turns_go_on :
       n < half → {r : Prices} → Priced re im r → {x y : Float} →
-      x ≡ pair_cost (get_or c0 n 0) (get_or c1 n 0) r.of_00 r.of_01 r.of_10 r.of_11 →
-      y ≡ pair_cost (get_or c0 n 0) (get_or c1 n 0) r.of_11 r.of_10 r.of_01 r.of_00 →
-      {w : Wing Float} → Winged smallest (get_or pm (2 * n) nan) (get_or pm (2 * n + 1) nan) s x y w →
+      x ≡ pair_cost (get_or c0 n 0) (get_or c1 n 0) r → y ≡ pair_cost (get_or c0 n 0) (get_or c1 n 0) (opposite r) →
+      {w : Wing Float} → Summed (floats_held smallest) (get_or pm (2 * n) nan) (get_or pm (2 * n + 1) nan) s x y w →
       {next' : List Float} {row' : List ℕ} →
       next' ≡ set (set next n w.low.met) (n + half) w.high.met →
       row' ≡ set (set row n w.low.from) (n + half) w.high.from →
       Turns c0 c1 re im pm old old_row next' row' (s + 2) (n + 1)
-  turns_go_on h {r} priced of_x of_y winged e f =
+  turns_go_on h {r} priced of_x of_y summed e f =
       record {
         paired =
             paired_goes_on now.paired h (λ (p q : ℕ). cost re im (phasor_of p q)) by_pair
             (λ bit0 bit1. of_x ∙ pair_cost_lem re im r priced (get_or c0 n 0) (get_or c1 n 0) bit0 bit1)
             (λ bit0 bit1. of_y ∙ opposite_cost re im r priced (get_or c0 n 0) (get_or c1 n 0) bit0 bit1)
-            winged e f;
+            summed.led e f;
       }

@@ -30,9 +30,13 @@ pub record Priced (re im : Float) (r : Prices) : Type 0 where
   pub of_10 : r.of_10 ≡ cost re im (phasor_of 1 0)
   pub of_11 : r.of_11 ≡ cost re im (phasor_of 1 1)
 
--- `cost_of_pair`: which of four is a coded pair's
-abbrev pub pair_cost : (c0 c1 : ℕ) → (of_00 of_01 of_10 of_11 : Float) → Float
-pair_cost c0 c1 of_00 of_01 of_10 of_11 = cond (eqb c0 0) (cond (eqb c1 0) of_00 of_01) (cond (eqb c1 0) of_10 of_11)
+-- `cost_of_pair`: which of the four is a coded pair's
+abbrev pub pair_cost : (c0 c1 : ℕ) → Prices → Float
+pair_cost c0 c1 r = cond (eqb c0 0) (cond (eqb c1 0) r.of_00 r.of_01) (cond (eqb c1 0) r.of_10 r.of_11)
+
+-- `opposite`: each is the opposite pair's
+abbrev pub opposite : Prices → Prices
+opposite r = record { of_00 = r.of_11; of_01 = r.of_10; of_10 = r.of_01; of_11 = r.of_00 }
 
 -- ---- one step
 

@@ -7,8 +7,8 @@ ghost use Rattle.symbols.specs.Decode.{first_least};
 ghost use Rattle.symbols.specs.Inner.{half, Steppable, Selects, compared, LeastIn};
 ghost use Rattle.symbols.specs.Inner.{components, Symbols, symbol_at, Runnable, Runs};
 
-use crate::phasors::{Phasor, cost_of_pair, phasor_of, prices_of};
-use butterflies::butterfly;
+use crate::phasors::{Phasor, cost_of_pair, opposite, phasor_of, prices_of};
+use best_path::select::butterfly;
 use butterflies::smallest::{MARK, Smallest};
 use trellis::ConvCode;
 
@@ -33,16 +33,13 @@ pub fn step(
     ensures { Selects code pm.now re im (lent next) (lent row) }
 {
     let prices = prices_of(re, im);
-    let of_00 = prices.of_00;
-    let of_01 = prices.of_01;
-    let of_10 = prices.of_10;
-    let of_11 = prices.of_11;
+    let turned = opposite(prices);
     // Lent as a slice, the array tells its length.
     let whole = &next[..];
     let mut s: u8 = 0;
     for n in 0..HALF {
-        let x = cost_of_pair(c0[n], c1[n], of_00, of_01, of_10, of_11);
-        let y = cost_of_pair(c0[n], c1[n], of_11, of_10, of_01, of_00);
+        let x = cost_of_pair(c0[n], c1[n], prices);
+        let y = cost_of_pair(c0[n], c1[n], turned);
         let even = 2 * n;
         let w = butterfly::<Smallest>(pm[even], pm[even + 1], s, x, y);
         let low = w.low;

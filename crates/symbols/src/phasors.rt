@@ -1,7 +1,7 @@
 // The phasor table, the phasor of two hard bits, and what a branch costs.
 ghost use Rattle.std.specs.Prelude.{◌≡◌, ◌%◌};
 ghost use Rattle.symbols.specs.Costs.{cost, phasor_of};
-ghost use Rattle.symbols.specs.Inner.{Priced, pair_cost};
+ghost use Rattle.symbols.specs.Inner.{Priced, pair_cost, opposite};
 
 // A point of the constellation.
 #[derive(Clone, Copy)]
@@ -60,12 +60,24 @@ pub fn prices_of(re: f32, im: f32) -> Prices
 }
 
 // The cost of a coded pair, by tests: a look-up would keep the loop of a step from being vectorised.
-pub fn cost_of_pair(c0: u32, c1: u32, of_00: f32, of_01: f32, of_10: f32, of_11: f32) -> f32
-    ensures { result ≡ pair_cost c0 c1 of_00 of_01 of_10 of_11 }
+pub fn cost_of_pair(c0: u32, c1: u32, prices: Prices) -> f32
+    ensures { result ≡ pair_cost c0 c1 prices }
 {
     if c0 < 1 {
-        if c1 < 1 { of_00 } else { of_01 }
+        if c1 < 1 { prices.of_00 } else { prices.of_01 }
     } else {
-        if c1 < 1 { of_10 } else { of_11 }
+        if c1 < 1 { prices.of_10 } else { prices.of_11 }
+    }
+}
+
+// The same prices by the opposite of the coded pair.
+pub fn opposite(prices: Prices) -> Prices
+    ensures { result ≡ opposite prices }
+{
+    Prices {
+        of_00: prices.of_11,
+        of_01: prices.of_10,
+        of_10: prices.of_01,
+        of_11: prices.of_00,
     }
 }

@@ -9,7 +9,7 @@ loop-n-init c = turns_start
 pub loop-n-preserved : goal.loop-n-preserved
 loop-n-preserved c =
     turns_go_on c.loop-n.invariant c.loop-n-test.true c.prices_of-prices.ensures c.cost_of_pair-x.ensures
-    c.cost_of_pair-y.ensures c.butterfly-w.ensures (search) (search)
+    (rw c.opposite-turned.ensures at c.cost_of_pair-y.ensures) c.butterfly-w.ensures (search) (search)
 
 pub returns : goal.returns
 returns c =
