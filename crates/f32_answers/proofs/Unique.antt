@@ -12,9 +12,8 @@ pub word_number-once : (κs answer : _) → Once (λ (r : ℕ). word_number.Post
 word_number-once κs answer r r' p q = p ∙ sym q
 
 pub first_bad-once :
-    (κs floats bytes used : _) →
-    Once (λ (r : Option ℕ). first_bad.Post κs (floats, (bytes, (used, tt))) r (floats, (bytes, (used, tt))))
-first_bad-once κs floats bytes used r r' p q = p ∙ sym q
+    (κs readings used : _) → Once (λ (r : Option ℕ). first_bad.Post κs (readings, (used, tt)) r (readings, (used, tt)))
+first_bad-once κs readings used r r' p q = p ∙ sym q
 
 pub first_beyond-once : (κs components : _) → Once (λ (r : Option ℕ). first_beyond.Post κs (components, tt) r (components, tt))
 first_beyond-once κs components r r' p q = p ∙ sym q

@@ -2,11 +2,13 @@
 #![tactic(auto)]
 
 ghost use Rattle.std.specs.Prelude.{◌≤◌, length, take};
-ghost use Rattle.f32s.specs.Single.{finite, within, values_in, values_lent};
+ghost use Rattle.f32s.specs.Readings.{values_of};
+ghost use Rattle.f32s.specs.Single.{finite, within};
 ghost use Rattle.refusal.specs.Answer.{answer_said};
 ghost use Rattle.refusal.specs.First.{FindsBad};
 ghost use Rattle.f32_answers.specs.Answer.{ScoreNumbers};
 
+use f32s::Readings;
 use refusal::Refusal;
 
 // The answer of the block decoder of readings as the one number that a door returns: the word stands in the lent
@@ -17,14 +19,13 @@ pub fn word_number(answer: Result<f32, Refusal>) -> u64
     refusal::answer_number(answer.map(|score| f32s::bits_of(score) as u64))
 }
 
-// The place of refusal 6: the index of the first of the used readings that is NaN or infinite, if there is one. The
-// readings are those of floats and, behind them, those of bytes.
-pub fn first_bad(floats: &[f32], bytes: &[u8], used: usize) -> Option<usize>
-    requires { used ≤ length (values_in floats.now bytes.now) }
-    ensures { FindsBad finite (take used (values_lent floats bytes)) result }
+// The place of refusal 6: the index of the first of the used readings that is NaN or infinite, if there is one.
+pub fn first_bad(readings: Readings, used: usize) -> Option<usize>
+    requires { used ≤ length (values_of readings) }
+    ensures { FindsBad finite (take used (values_of readings.entry)) result }
 {
     for i in 0..used {
-        let good = f32s::is_finite_in(floats, bytes, i);
+        let good = readings.is_finite_at(i);
         if !good {
             return Some(i);
         }

@@ -10,8 +10,6 @@ use Rattle.f32s.proofs.from_bytes.Reads as from_bytes
 use Rattle.f32s.proofs.Readings.len.Reads as len
 use Rattle.f32s.proofs.Readings.is_finite_at.Reads as is_finite_at
 use Rattle.f32s.proofs.Readings.finite_at.Reads as finite_at
-use Rattle.f32s.proofs.finite_in.Reads as finite_in
-use Rattle.f32s.proofs.is_finite_in.Reads as is_finite_in
 use Rattle.f32s.proofs.from_all_bytes.Reads as from_all_bytes
 use Rattle.f32s.proofs.bits_of.Reads as bits_of
 
@@ -40,15 +38,6 @@ pub finite_at-determined :
     (κs : _) (given : _) (r r' : Float) (left left' : _) →
     finite_at.Post κs given r left → finite_at.Post κs given r' left' → r ≡ r'
 finite_at-determined κs given r r' left left' p q = p ∙ sym q
-
-pub finite_in-determined :
-    (κs : _) (given : _) (r r' : Float) (left left' : _) → finite_in.Post κs given r left → finite_in.Post κs given r' left' → r ≡ r'
-finite_in-determined κs given r r' left left' p q = p ∙ sym q
-
-pub is_finite_in-determined :
-    (κs : _) (given : _) (r r' : Bool) (left left' : _) →
-    is_finite_in.Post κs given r left → is_finite_in.Post κs given r' left' → r ≡ r'
-is_finite_in-determined κs given r r' left left' p q = p ∙ sym q
 
 pub from_all_bytes-determined :
     (κs : _) (given : _) (r r' : ℕ) (left left' : _) → from_all_bytes.Post κs given r left → from_all_bytes.Post κs given r' left' →

@@ -4,7 +4,7 @@
 ghost use Rattle.std.specs.Prelude.{true, ◌≡◌, ◌+◌, ◌/◌, ◌<◌, length, get_or};
 ghost use Rattle.std.specs.Float.{binary32};
 ghost use Rattle.std.specs.Float.Ieee.{to_bits};
-ghost use Rattle.f32s.specs.Single.{zero32, finite, within, of_bytes, values_in, values_lent};
+ghost use Rattle.f32s.specs.Single.{zero32, finite, within, of_bytes, values_in};
 ghost use Rattle.f32s.specs.Readings.{values_of};
 ghost use Rattle.f32s.specs.Inner.{of_four, Fills};
 
@@ -87,21 +87,6 @@ impl<'a> Readings<'a> {
             }
         }
     }
-}
-
-// The same of the two slices by themselves.
-pub fn is_finite_in(floats: &[f32], bytes: &[u8], i: usize) -> bool
-    requires { i < length floats.now + length bytes.now / 4 }
-    ensures { result ≡ finite (get_or (values_lent floats bytes) i zero32) }
-{
-    Readings { floats, bytes }.is_finite_at(i)
-}
-
-pub fn finite_in(floats: &[f32], bytes: &[u8], i: usize) -> f32
-    requires { finite (get_or (values_in floats.now bytes.now) i zero32) ≡ true }
-    ensures { result ≡ get_or (values_lent floats bytes) i zero32 }
-{
-    Readings { floats, bytes }.finite_at(i)
 }
 
 // The f32s of bytes, four bytes each: as many as there are and there is room for. They go to the front of

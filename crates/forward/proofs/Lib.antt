@@ -1,3 +1,2 @@
--- Metrics: no metric is a NaN, so the score has bits. Unique: the contract allows one outcome at most.
+-- Metrics: no metric is a NaN, so the score has bits.
 pub mod Metrics
-pub mod Unique

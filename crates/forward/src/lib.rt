@@ -1,13 +1,13 @@
 // The block decoder of readings that are f32s, as a decoder of any kind: how it reads a place, and a turn of its steps.
 #![tactic(auto)]
 
-ghost use Rattle.std.specs.Prelude.{◌≡◌, length};
-ghost use Rattle.f32s.specs.Single.{values_in};
+ghost use Rattle.f32s.specs.Readings.{values_of};
 
 use best_path::pair::Wing;
 use best_path::select::butterfly;
 use butterflies::largest::{Largest, MARK, signed};
-use steps::{Decoder, Readings};
+use f32s::Readings;
+use steps::Decoder;
 
 // Sums of f32s, of which the larger wins.
 pub struct Soft;
@@ -42,30 +42,10 @@ impl Decoder for Soft {
     ghost fit = { Prim.search rules };
 }
 
-// Readings as they are received: floats and, behind them, those of bytes, four bytes each.
-#[derive(Clone, Copy)]
-pub struct Received<'a> {
-    pub floats: &'a [f32],
-    pub bytes: &'a [u8],
-}
-
-impl<'a> Received<'a> {
-    // How many there are.
-    pub fn count(self) -> usize
-        ensures { result ≡ length (values_in self.entry.floats.now self.entry.bytes.now) }
-    {
-        self.floats.len() + self.bytes.len() / 4
-    }
-}
-
-impl<'a> Readings<Soft> for Received<'a> {
-    ghost readings = { λ received. values_in received.floats.now received.bytes.now };
+impl<'a> steps::Readings<Soft> for Readings<'a> {
+    ghost readings = { values_of };
 
     fn value_at(&self, column: u8, at: usize) -> f32 {
-        if column == 1 {
-            f32s::finite_in(self.floats, self.bytes, at)
-        } else {
-            0.0
-        }
+        if column == 1 { self.finite_at(at) } else { 0.0 }
     }
 }

@@ -1,37 +1,37 @@
 // The block decoder of readings: what it refuses, and which code and keep pattern it runs.
 #![tactic(auto)]
 
-ghost use Rattle.f32s.specs.Single.{values_in};
+ghost use Rattle.f32s.specs.Readings.{values_of};
 ghost use Rattle.refusal.specs.Answer.{Says};
 ghost use Rattle.refusal.specs.Lent.{lent};
 ghost use Rattle.readings.specs.Promise.{Decodes, DecodesBytes};
 
-use forward::{Received, Soft};
+use f32s::Readings;
+use forward::Soft;
 use refusal::Refusal;
 use steps::decode;
 
 // What both entries do: an entry has only floats or only bytes, and each is read where it lies.
 fn decode_readings(
     code: u8,
-    received: Received,
+    readings: Readings,
     info: usize,
     rate: u8,
     out: &mut [u8],
     scratch: &mut [u8],
 ) -> Result<f32, Refusal>
-    ensures { let readings = values_in received.entry.floats.now received.entry.bytes.now in
-        Decodes (Says result) code rate info readings (lent out) (lent scratch) }
+    ensures { Decodes (Says result) code rate info (values_of readings.entry) (lent out) (lent scratch) }
 {
-    let ready = correlation::prepare(code, rate, info, received.count(), out.len(), scratch.len())?;
-    match f32_answers::first_bad(received.floats, received.bytes, ready.used) {
+    let ready = correlation::prepare(code, rate, info, readings.len(), out.len(), scratch.len())?;
+    match f32_answers::first_bad(readings, ready.used) {
         Some(bad) => Err(Refusal::BadReading(bad as u32)),
         None => {
             let chosen = ready.chosen;
-            let score = decode::<Soft, Received>(
+            let score = decode::<Soft, Readings>(
                 chosen.code,
                 ready.half,
                 chosen.keep,
-                &received,
+                &readings,
                 info,
                 out,
                 scratch,
@@ -52,11 +52,11 @@ pub fn viterbi_decode_soft_with(
 ) -> Result<f32, Refusal>
     ensures { Decodes (Says result) code rate info readings.now (lent out) (lent scratch) }
 {
-    let received = Received {
+    let readings = Readings {
         floats: readings,
         bytes: &[],
     };
-    decode_readings(code, received, info, rate, out, scratch)
+    decode_readings(code, readings, info, rate, out, scratch)
 }
 
 // The same of readings as four bytes each, low first; a last piece under four bytes is surplus.
@@ -70,6 +70,6 @@ pub fn viterbi_decode_bytes(
 ) -> Result<f32, Refusal>
     ensures { DecodesBytes (Says result) code rate info bytes.now (lent out) (lent scratch) }
 {
-    let received = Received { floats: &[], bytes };
-    decode_readings(code, received, info, rate, out, scratch)
+    let readings = Readings { floats: &[], bytes };
+    decode_readings(code, readings, info, rate, out, scratch)
 }

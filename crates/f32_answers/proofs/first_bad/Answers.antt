@@ -11,12 +11,12 @@ use Rattle.f32_answers.proofs.first_bad.Goals as goal
 pub loop-i-init : goal.loop-i-init
 loop-i-init c = sought_starts finite
 
-pub is_finite_in-good-requires : goal.is_finite_in-good-requires
-is_finite_in-good-requires c =
-    omega (arith, c.loop-i-test.true, c.requires, length-values c.args.floats.now c.args.bytes.now)
+pub is_finite_at-good-requires : goal.is_finite_at-good-requires
+is_finite_at-good-requires c =
+    omega (arith, c.loop-i-test.true, c.requires, length-values c.args.readings.floats.now c.args.readings.bytes.now)
 
 pub loop-i-preserved : goal.loop-i-preserved
-loop-i-preserved c = used_goes_on _ _ _ _ c.loop-i.invariant (search rules) (search rules) c.is_finite_in-good.ensures (search rules)
+loop-i-preserved c = used_goes_on _ _ _ _ c.loop-i.invariant (search rules) (search rules) c.is_finite_at-good.ensures (search rules)
 
 pub returns : goal.returns
 returns c =
@@ -25,4 +25,4 @@ returns c =
 
 pub returns-then-not-good : goal.returns-then-not-good
 returns-then-not-good c =
-    used_found _ _ _ _ c.loop-i.invariant (search rules) (search rules) c.is_finite_in-good.ensures (search rules)
+    used_found _ _ _ _ c.loop-i.invariant (search rules) (search rules) c.is_finite_at-good.ensures (search rules)

@@ -13,30 +13,30 @@ use Rattle.readings.proofs.decode_readings.Goals as goal
 
 pub returns-in_err-ready : goal.returns-in_err-ready
 returns-in_err-ready c =
-    let is = rw c.count.ensures at c.in_err-ready.ensures in
+    let is = rw c.len.ensures at c.in_err-ready.ensures in
     rw (handed_on c.from_residual.result _ c.from_residual.ensures)
     (both_refused (not_prepared _ _ _ _ _ _ _ _ _ is) refl refl refl)
 
 pub first_bad-requires : goal.first_bad-requires
-first_bad-requires c = omega (arith, c.count.ensures, used_within c.in_ok-ready.ensures.ready.used)
+first_bad-requires c = omega (arith, c.len.ensures, used_within c.in_ok-ready.ensures.ready.used)
 
 pub overflow_cast-result : goal.overflow_cast-result
 overflow_cast-result c =
-    let is = rw c.count.ensures at c.in_ok-ready.ensures in
+    let is = rw c.len.ensures at c.in_ok-ready.ensures in
     omega (arith, bad_few _ _ _ is.ready.used _ c.in-Some.ensures)
 
 pub returns-in-Some : goal.returns-in-Some
 returns-in-Some c =
-    let is = rw c.count.ensures at c.in_ok-ready.ensures in
+    let is = rw c.len.ensures at c.in_ok-ready.ensures in
     both_refused (bad_reading_lem _ _ _ _ _ _ _ _ _ is c.in-Some.ensures) refl (search) (search)
 
 pub decode-score-requires : goal.decode-score-requires
 decode-score-requires c =
-    let is = rw c.count.ensures at c.in_ok-ready.ensures in
+    let is = rw c.len.ensures at c.in_ok-ready.ensures in
     record { shaped = call_decodable is refl refl; used = used_finite _ is c.in-None.ensures }
 
 pub returns-in-None : goal.returns-in-None
 returns-in-None c =
-    let is = rw c.count.ensures at c.in_ok-ready.ensures in
+    let is = rw c.len.ensures at c.in_ok-ready.ensures in
     let found = finds_selected is.ready.chosen is.ready.halved c.decode-score.ensures.found in
     finds_decodes _ _ _ _ _ (good_readings _ _ _ _ _ _ _ _ _ is c.in-None.ensures) (ap accepted found.scored) found
