@@ -17,7 +17,8 @@ use call_lines::shapes::{Call, call_of};
 use std::io;
 use std::io::{Read, Write};
 
-// What stands in place of the front of a line that is too long.
+// What stands in place of the front of a line that is too long. It is a byte, and no flag beside the text, so that a
+// line of the input that begins with it is answered as ever.
 const CUT: u8 = 0;
 
 // The room has a line of 16,384 symbols, digit by digit.

@@ -59,7 +59,8 @@ fn feed_all<W: Write>(
     Ok(decoder)
 }
 
-// A bit, 2 for nothing, or a refusal as a door says it.
+// A bit, 2 for nothing, or a refusal as a door says it. `bench_calls` says the same, but is a static library, so nothing
+// can stand on it.
 fn emitted_number(answer: Emitted) -> u64 {
     answer_number(answer.map(|bit| bit.map_or(2, u64::from)))
 }

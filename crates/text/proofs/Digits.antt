@@ -50,18 +50,14 @@ module _ {n : ℕ} {digits : List ℕ} {rest i : ℕ} (so_far : HexLeft n digits
 
 -- ---- a decimal number
 
--- whether one digit is enough, or more are needed
-digits_at : (k n : ℕ) → (b : Bool) → List ℕ
-digits_at k n b = cond b (digit n ∷ []) (decimal_digits k (n / 10) ++ (digit (n % 10) ∷ []))
-
 -- one digit is enough for a number below 10
 one_digit : (k n : ℕ) → n < 10 → decimal_digits (suc k) n ≡ digit n ∷ []
-unfolding decimal_digits digits_at
-one_digit k n h = ap (digits_at k n) (lt-ltb n 10 h)
+unfolding decimal_digits
+one_digit k n h = rw (lt-ltb n 10 h)
 
 more_digits : (k n : ℕ) → 10 ≤ n → decimal_digits (suc k) n ≡ decimal_digits k (n / 10) ++ (digit (n % 10) ∷ [])
-unfolding decimal_digits digits_at
-more_digits k n h = ap (digits_at k n) (le-ltb n 10 h)
+unfolding decimal_digits
+more_digits k n h = rw (le-ltb n 10 h)
 
 fewer_left : (n k : ℕ) → n < 10 ^ suc k → n / 10 < 10 ^ k
 fewer_left n k h = (div-lt_iff_lt-mul (lit< tt)).1 (rw (pow-suc 10 k) at h)

@@ -1,4 +1,7 @@
 // A line that is being written: texts, words and numbers, one behind the other, in ASCII.
+//
+// Its numbers are not printed by std's `write!`: that may fail, and its contract does not say that it never does where
+// there is room. What the program prints for an answer must not fail.
 #![tactic(auto)]
 
 ghost use Rattle.std.specs.Prelude.{◌≡◌, ◌+◌, ◌<◌, ◌≤◌, [], ◌∷◌, ◌++◌, length};
