@@ -1,5 +1,5 @@
-// A queue in an array with a head and a count, by value: of 256 bits, or of 64 characters. Room that is freed by taking
-// out is used again, round the array's end.
+// A queue in an array with a head and a count: of 256 bits, or of 64 characters. Room that is freed by taking out is
+// used again, round the array's end.
 #![tactic(auto)]
 
 ghost use Rattle.std.specs.Prelude.{◌≡◌, replicate};

@@ -22,7 +22,8 @@ pub struct VaricodeDecoder {
     pub chars: CharQueue,
 }
 
-// What a call that pushes a bit answers, and one that takes a character out, with the reader after it.
+// What a call that pushes a bit answers, and one that takes a character out, with the reader after it: by value, as
+// document 01 has it.
 pub type Pushed = Answered<Result<(), Refusal>, VaricodeDecoder>;
 
 pub type NextChar = Answered<Option<u8>, VaricodeDecoder>;

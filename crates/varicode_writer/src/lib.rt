@@ -18,7 +18,8 @@ pub struct VaricodeEncoder {
     pub first: bool,
 }
 
-// What a call that puts bits answers, and one that takes a bit out, with the writer after it.
+// What a call that puts bits answers, and one that takes a bit out, with the writer after it: by value, as document 01
+// has it.
 pub type Wrote = Answered<Result<(), Refusal>, VaricodeEncoder>;
 
 pub type NextBit = Answered<Option<u8>, VaricodeEncoder>;
