@@ -10,16 +10,17 @@ ghost use Rattle.encoder.specs.Promise.{Decides, Measures, Encodes, EncodesPlain
 ghost use Rattle.encoder.specs.Inner.{kept_by, Ready, ReadyAt, Sends};
 
 use refusal::Refusal;
-use trellis::{Code, ConvCode, KeepPattern, Rate, Selected};
+use trellis::{Code, Rate, Selected};
 
 // The input of step t: the lowest bit of its byte, and 0 past the end, which is the zero tail.
 fn input_at(bits: &[u8], t: usize) -> u32
     ensures { result ≡ get_or (lowest_bits bits.now) t 0 }
 {
     if t < bits.len() {
-        return (bits[t] % 2) as u32;
+        (bits[t] % 2) as u32
+    } else {
+        0
     }
-    0
 }
 
 // Writes a coded bit at `at` if its column keeps it. Answers the place after it.
@@ -29,16 +30,19 @@ fn put(column: u8, bit: u8, at: usize, out: &mut [u8]) -> usize
 {
     if column == 1 {
         out[at] = bit;
-        return at + 1;
+        at + 1
+    } else {
+        at
     }
-    at
 }
 
 // The register from 0 on: writes what the steps send to the front of out.
-fn encode(code: ConvCode, keep: KeepPattern, bits: &[u8], steps: usize, out: &mut [u8])
-    requires { Ready code keep steps out.old }
-    ensures { Sends code (keep_of keep) steps bits.now (lent out) }
+fn encode(chosen: Selected, bits: &[u8], steps: usize, out: &mut [u8])
+    requires { Ready chosen.code chosen.keep steps out.old }
+    ensures { Sends chosen.code (keep_of chosen.keep) steps bits.now (lent out) }
 {
+    let code = chosen.code;
+    let keep = chosen.keep;
     let period = keep.period;
     let row0 = keep.row0;
     let row1 = keep.row1;
@@ -56,22 +60,21 @@ fn encode(code: ConvCode, keep: KeepPattern, bits: &[u8], steps: usize, out: &mu
 }
 
 // The same for what a code number and a rate number select. Where these are constants, the compiler leaves
-// the columns and the tap words out of the loop: the Rust too has ways of its own for rate 1/2 and for K5.
+// the columns and the tap words out of the loop: the Rust too has ways of its own for rate 1/2 and for K5. It goes by
+// the numbers, as `choose` does, which takes any two (`Chooses`).
 fn encode_at(code: u8, rate: u8, chosen: Selected, bits: &[u8], steps: usize, out: &mut [u8])
     requires { ReadyAt code rate chosen steps out.old }
     ensures { Sends (code_of code) (pattern_of code rate) steps bits.now (lent out) }
 {
     if rate == 0 {
         if code == 0 {
-            let k5 = trellis::choose(0, 0);
-            encode(k5.code, k5.keep, bits, steps, out);
-            return;
+            encode(trellis::choose(0, 0), bits, steps, out);
+        } else {
+            encode(trellis::choose(code, 0), bits, steps, out);
         }
-        let half = trellis::choose(code, 0);
-        encode(half.code, half.keep, bits, steps, out);
-        return;
+    } else {
+        encode(chosen, bits, steps, out);
     }
-    encode(chosen.code, chosen.keep, bits, steps, out);
 }
 
 // Refusals 1 to 3, which every call with a code, a rate and an info count decides first. The limit on info bits is the

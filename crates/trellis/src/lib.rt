@@ -82,11 +82,6 @@ impl TryFrom<u8> for Rate {
     }
 }
 
-// How many codes and rates there are. Their numbers count from 0.
-pub const CODES: u8 = 3;
-
-pub const RATES: u8 = 5;
-
 // The code of QPSK31.
 const K5: ConvCode = ConvCode {
     width: 4,

@@ -24,8 +24,8 @@ returns-then-column-eq1 c =
     let sent = kept args.column args.bit c.if-column-eq1.true in
     record { place = rw sent; output = rw sent (over_set args.out.now args.at args.bit (omega (arith, ap length sent))) }
 
-pub returns : goal.returns
-returns c =
+pub returns-else-column-eq1 : goal.returns-else-column-eq1
+returns-else-column-eq1 c =
     let args = c.args in
     let sent = deleted args.column args.bit c.if-column-eq1.false in
     record { place = rw sent (omega arith); output = rw sent (over_kept args.out.now args.at (omega (arith, ap length sent))) }
