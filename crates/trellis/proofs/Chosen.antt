@@ -191,6 +191,10 @@ unfolding coding_of
 code_named number (Ok code) e = ap coding_of e.numbered
 code_named number (Err x) e = sym (get_or-eq_default codings _ (ltb-false number codes e.unknown))
 
+-- equal rate numbers have equal keep patterns, in any list of them
+pub rate_held : (patterns : List Keep) {rate k : ℕ} → rate ≡ k → held_of (pattern_in patterns k) ≡ held_of (pattern_in patterns rate)
+rate_held patterns e = sym (ap (λ (n : ℕ). held_of (pattern_in patterns n)) e)
+
 -- what names no rate selects 1/2
 no_rate : (patterns : List Keep) (rate : ℕ) → ltb rate (length patterns) ≡ false → half ≡ pattern_in patterns rate
 unfolding pattern_in

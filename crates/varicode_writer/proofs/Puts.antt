@@ -16,6 +16,7 @@ use Rattle.queue.specs.Ring.{Ring, read_as, put_all, bit_room}
 use Rattle.queue.proofs.Rings.{read_room, put_all-append, put_all-room}
 use Rattle.refusal.specs.Answer.{refused, answer_said}
 use Rattle.refusal.specs.declared.Refusal.{Refusal}
+use Rattle.refusal.specs.declared.Refusal.TheVariants.{BadByte}
 use Rattle.refusal.specs.Numbers.{queue_full, bad_byte}
 use Rattle.varicode_words.specs.Word.{length_of, word_of, bits_of}
 use Rattle.varicode_writer.specs.declared.VaricodeEncoder.{VaricodeEncoder}
@@ -73,6 +74,13 @@ module _ (w : Writer) (c : Call) (high : high_byte c ≡ true) where
   pub high_byte-changes_nothing : put_leaves w c ≡ w
   unfolding put_leaves
   high_byte-changes_nothing = rw high
+
+pub puts_high_byte : (e : VaricodeEncoder) (c : Call) (r : Wrote) → high_byte c ≡ true → Refuses BadByte e r → Puts e c r
+puts_high_byte e c r high k =
+    record {
+      answer = ap answer_said k.answer ∙ sym (high_byte-refused (writer e) c high);
+      state = ap writer k.state ∙ sym (high_byte-changes_nothing (writer e) c high);
+    }
 
 -- the same of a byte, told by how large it is
 module _ (w : Writer) (b : ℕ) (large : 128 ≤ b) where
