@@ -9,7 +9,7 @@ ghost use Rattle.text.specs.Text.{digit, bit_text, word_text, hex_digits, decima
 
 use std::marker::Model;
 
-// At most ROOM bytes. Clauses see those that were written.
+// At most ROOM bytes, and zeros behind them. Clauses see those that were written.
 #[derive(Drop)]
 pub struct Line<const ROOM: usize> {
     bytes: [u8; ROOM],
@@ -17,13 +17,13 @@ pub struct Line<const ROOM: usize> {
 }
 
 impl<const ROOM: usize> Model for Line<ROOM> {
-    ghost use Rattle.std.specs.Prelude.{ℕ, ◌≤◌, List, take};
+    ghost use Rattle.std.specs.Prelude.{ℕ, ◌≤◌, ◌-◌, ◌≡◌, List, take, drop, replicate};
 
     ghost Value = { List ℕ };
 
     ghost view = { λ l. take l.len l.bytes };
 
-    ghost invariant = { λ l. l.len ≤ ROOM };
+    ghost invariant = { λ l. (l.len ≤ ROOM) × (drop l.len l.bytes ≡ replicate (ROOM - l.len) 0) };
 }
 
 impl<const ROOM: usize> Line<ROOM> {

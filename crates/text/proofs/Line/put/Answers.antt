@@ -1,0 +1,17 @@
+-- `text::Line::put`: behind the text that is written zeros stay. Assumes nothing.
+use mathlib.Core.Path.{◌∙◌}
+use native.Mathlib.Omega.{arith}
+use borrow.Author.Rules.{rules}
+use Rattle.std.proofs.Common.{length, ◌+◌, ◌-◌}
+use Rattle.std.proofs.lemmas.Slice.{drop-put_mid}
+use Rattle.text.proofs.Behind.{zeros_stay}
+use Rattle.text.proofs.Line.put.Goals as goal
+
+pub invariant_of-self : goal.invariant_of-self
+invariant_of-self g c =
+    let line = c.self.inside in
+    let end = line.len + length c.args.text.now in (
+      search rules,
+      drop-put_mid line.len (end - line.len) line.bytes _ end (omega arith) (omega (arith, c.self.invariant)) (omega (arith, c.copy_from_slice.ensures))
+          ∙ zeros_stay line.len (length c.args.text.now) g.row.ROOM line.bytes c.self.invariant.1,
+    )
