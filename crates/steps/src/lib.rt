@@ -60,7 +60,8 @@ pub trait Readings<D: Decoder> {
 
 // One step that reads a and b: the new metrics go to the front of next, the survivors to the front of row.
 // Survivor numbers come from a counter of their own: made from n they keep the loop from being
-// vectorised well.
+// vectorised well. A turn reads four arrays and writes both halves of two, by one index: chained iterators for that are
+// no plainer.
 fn step<D: Decoder>(
     code: ConvCode,
     half: usize,
