@@ -1,11 +1,10 @@
 -- What the functions ask and ensure: the metrics as the code holds them stand for the totals of the decoder in whole
 -- numbers, and no sum overflows. The same over any kind of decoder is in crate `correlation`. Definitions only.
 use Rattle.std.specs.Prelude.{List, ℕ, ◌*◌, ℤ, pos, negsuc}
-use Rattle.best_path.specs.Path.{Total}
 use Rattle.correlation.specs.Inner as any
 use Rattle.correlation.specs.Whole.{exactly}
 use Rattle.refusal.specs.Lent.{Lent}
-use Rattle.signed_butterflies.specs.Held.{Byte, Near, Room, total_of}
+use Rattle.signed_butterflies.specs.Held.{Byte, Near, total_of, wholes_held}
 use Rattle.steps.specs.Holding.{Holding}
 use Rattle.trellis.specs.declared.ConvCode.{ConvCode}
 use Rattle.trellis.specs.declared.KeepPattern.{KeepPattern}
@@ -18,17 +17,9 @@ use Rattle.trellis.specs.Keep.{Keep}
 abbrev pub mark : ℤ
 mark = negsuc 1073741823
 
--- a number stands for a total; after so many steps it is that near to a sum or to the mark
-abbrev pub wholes_held : Holding ℤ
-wholes_held =
-    record {
-      Value = Total;
-      value = total_of;
-      kind = exactly;
-      Asked = Byte;
-      Room = Room;
-      After = λ (t : ℕ) (x : ℤ). Near (254 * t) x;
-    }
+-- the decoder: by whole sums, of readings from −127 to 127
+abbrev pub exactly_held : Holding ℤ
+exactly_held = record { pair = wholes_held; kind = exactly; Asked = Byte }
 
 -- ---- all steps
 

@@ -13,6 +13,6 @@ pub runs_once :
     (code, (half, (keep, (readings, (steps, (rows, tt)))))) r (code, (half, (keep, (readings, (steps, (left, tt)))))) →
     forward.Post D R N D_laws R_laws N_laws copied decoder decoder_dict clones clones_dict source source_dict κs
     (code, (half, (keep, (readings, (steps, (rows, tt)))))) r' (code, (half, (keep, (readings, (steps, (left', tt)))))) →
-    (decoder.held.value r ≡ decoder.held.value r') × (left.now ≡ left'.now)
+    (decoder.held.pair.value r ≡ decoder.held.pair.value r') × (left.now ≡ left'.now)
 runs_once D R N D_laws R_laws N_laws copied decoder decoder_dict clones clones_dict source source_dict κs code half keep readings
     steps rows r r' left left' p q = (p.ran.last ∙ sym q.ran.last, p.ran.survivors ∙ sym q.ran.survivors)

@@ -1,9 +1,8 @@
 -- What the functions ask and ensure, by the metrics as a decoder holds them: those stand for the metrics of the
 -- definitions, which are in crate `correlation`. Definitions only.
-use Rattle.std.specs.Prelude.{cond, List, map, ◌≡◌, ℕ, ◌+◌, ◌^◌, ◌<◌, eqb, get_or}
+use Rattle.std.specs.Prelude.{cond, List, map, ◌≡◌, ℕ, ◌+◌, ◌*◌, ◌^◌, ◌≤◌, ◌<◌, eqb, get_or}
 use Rattle.best_path.specs.Inner.{LedTo}
-use Rattle.best_path.specs.Step.{Cell}
-use Rattle.best_path.specs.declared.pair.NewState.{NewState}
+use Rattle.best_path.specs.Pair.{Room, cell_held}
 use Rattle.best_path.specs.declared.pair.Wing.{Wing}
 use Rattle.correlation.specs.Inner as any
 use Rattle.refusal.specs.Lent.{Lent}
@@ -17,24 +16,17 @@ module _ {N : Type 0} (held : Holding N) where
   -- ---- metrics as the code holds them
 
   -- what they stand for, and what those of a lent list of them do
-  abbrev pub values : List N → ℕ → held.Value
-  values pm s = get_or (map held.value pm) s (held.value held.kind.on.zero)
+  abbrev pub values : List N → ℕ → held.pair.Value
+  values pm s = get_or (map held.pair.value pm) s (held.pair.value held.kind.on.zero)
 
-  abbrev pub values_lent : Lent N → Lent held.Value
-  values_lent next = record { given = map held.value next.given; left = map held.value next.left }
+  abbrev pub values_lent : Lent N → Lent held.pair.Value
+  values_lent next = record { given = map held.pair.value next.given; left = map held.pair.value next.left }
 
-  -- the metrics of the code's states: each has room for one more step, or is one after so many
-  pub record AllRoom (code : ConvCode) (pm : List N) : Type 0 where
-    pub each : (s : ℕ) → s < 2 ^ code.width → held.Room (get_or pm s held.kind.on.zero)
-
-  pub record AllAfter (code : ConvCode) (t : ℕ) (pm : List N) : Type 0 where
-    pub each : (s : ℕ) → s < 2 ^ code.width → held.After t (get_or pm s held.kind.on.zero)
+  -- the metrics of the code's states, each of them that near
+  pub record AllNear (code : ConvCode) (bound : ℕ) (pm : List N) : Type 0 where
+    pub each : (s : ℕ) → s < 2 ^ code.width → held.pair.Near bound (get_or pm s held.kind.on.zero)
 
   -- ---- one turn
-
-  -- a new state as the code holds it
-  abbrev pub cell_held : NewState N → Cell held.Value
-  cell_held z = record { met = held.value z.met; from = z.from }
 
   -- a reading, or its negative where the coded bit is 1
   abbrev pub side : ℕ → N → N
@@ -45,18 +37,19 @@ module _ {N : Type 0} (held : Holding N) where
     pub state : s < 255
     pub first : held.Asked a
     pub second : held.Asked b
-    pub even : held.Room m0
-    pub odd : held.Room m1
+    pub even : Room held.pair m0
+    pub odd : Room held.pair m1
 
   -- `turn`: the states s and s + 1, of metrics m0 and m1, on either input, by what the coded pair c0 c1 and its
-  -- opposite bring where the step reads a and b; the new metrics are those of one more step
+  -- opposite bring where the step reads a and b; the new metrics are not much further off
   pub record Turned (c0 c1 : ℕ) (a b m0 m1 : N) (s : ℕ) (r : Wing N) : Type 0 where
     pub led :
-        LedTo held.kind.op (held.value m0) (held.value m1) s (held.kind.on.plus (side c0 a) (side c1 b))
-        (held.kind.on.minus (held.kind.on.negative (side c0 a)) (side c1 b)) (cell_held r.low) (cell_held r.high)
-    pub after :
-        (t : ℕ) → t < 65536 → held.After t m0 → held.After t m1 →
-        held.After (t + 1) r.low.met × held.After (t + 1) r.high.met
+        LedTo held.kind.op (held.pair.value m0) (held.pair.value m1) s (held.kind.on.plus (side c0 a) (side c1 b))
+        (held.kind.on.minus (held.kind.on.negative (side c0 a)) (side c1 b)) (cell_held held.pair r.low)
+        (cell_held held.pair r.high)
+    pub near :
+        (bound : ℕ) → bound ≤ held.pair.limit → held.pair.Near bound m0 → held.pair.Near bound m1 →
+        held.pair.Near (bound + held.pair.reach) r.low.met × held.pair.Near (bound + held.pair.reach) r.high.met
 
   -- ---- one step
 
@@ -66,7 +59,7 @@ module _ {N : Type 0} (held : Holding N) where
     pub shaped : any.Steppable code half c0 c1 row
     pub first : held.Asked a
     pub second : held.Asked b
-    pub roomy : AllRoom code pm
+    pub roomy : AllNear code held.pair.limit pm
 
   -- `step_of`: the same, for the numbers of states that the loop is compiled for
   pub record SteppableOf
@@ -74,10 +67,11 @@ module _ {N : Type 0} (held : Holding N) where
     pub ready : Steppable code half c0 c1 a b pm row
     pub compiled : any.Compiled half
 
-  -- `step`, `step_of`: what the new metrics stand for, and that they are those of one more step
+  -- `step`, `step_of`: what the new metrics stand for, and that none is much further off
   pub record Steps (code : ConvCode) (pm : List N) (a b : N) (next : Lent N) (row : Lent ℕ) : Type 0 where
     pub selects : any.Selects held.kind code (values pm) a b (values_lent next) row
-    pub after : (t : ℕ) → t < 65536 → AllAfter code t pm → AllAfter code (t + 1) next.left
+    pub near :
+        (bound : ℕ) → bound ≤ held.pair.limit → AllNear code bound pm → AllNear code (bound + held.pair.reach) next.left
 
   -- ---- all steps
 
@@ -95,8 +89,8 @@ module _ {N : Type 0} (held : Holding N) where
     pub shaped : any.Runnable code half keep steps rows
     pub used : UsedAsked (keep_of keep) steps readings
 
-  -- `forward`: what state 0's last metric stands for, that it is one after so many steps, and the survivors
+  -- `forward`: what state 0's last metric stands for, how far it is after so many steps, and the survivors
   pub record Runs
       (code : ConvCode) (p : Keep) (states steps : ℕ) (readings : List N) (r : N) (rows : Lent ℕ) : Type 0 where
-    pub ran : any.Runs held.kind code p states steps readings (held.value r) rows
-    pub after : held.After steps r
+    pub ran : any.Runs held.kind code p states steps readings (held.pair.value r) rows
+    pub near : held.pair.Near (held.pair.reach * steps) r
