@@ -11,7 +11,7 @@ use Rattle.trellis.specs.declared.ConvCode.{ConvCode}
 use Rattle.trellis.specs.declared.KeepPattern.{KeepPattern}
 use Rattle.trellis.specs.Choice.{keep_of}
 use Rattle.trellis.specs.Keep.{Keep}
-use Rattle.forward.specs.Sums.{soft}
+use Rattle.forward.specs.Sums.{floats, soft}
 
 -- the readings that so many steps use: each is finite
 abbrev pub IsFinite : Float → Type 0
@@ -22,7 +22,7 @@ UsedFinite p steps readings = any.UsedEach IsFinite zero32 p steps readings
 
 -- the decoder: by f32 sums, of finite readings
 abbrev pub soft_held : Holding Float
-soft_held = record { pair = floats_held largest; kind = soft; Asked = IsFinite }
+soft_held = record { pair = floats_held largest; on = floats; first = zero32; Asked = IsFinite }
 
 -- `forward`
 pub record Runnable

@@ -1,8 +1,9 @@
 -- What the functions ask and ensure: the metrics as the code holds them stand for the totals of the decoder in whole
 -- numbers, and no sum overflows. The same over any kind of decoder is in crate `correlation`. Definitions only.
 use Rattle.std.specs.Prelude.{List, ℕ, ◌*◌, ℤ, pos, negsuc}
+use Rattle.best_path.specs.Path.{total}
 use Rattle.correlation.specs.Inner as any
-use Rattle.correlation.specs.Whole.{exactly}
+use Rattle.correlation.specs.Whole.{whole, exactly}
 use Rattle.refusal.specs.Lent.{Lent}
 use Rattle.signed_butterflies.specs.Held.{Byte, Near, total_of, wholes_held}
 use Rattle.steps.specs.Holding.{Holding}
@@ -19,7 +20,7 @@ mark = negsuc 1073741823
 
 -- the decoder: by whole sums, of readings from −127 to 127
 abbrev pub exactly_held : Holding ℤ
-exactly_held = record { pair = wholes_held; kind = exactly; Asked = Byte }
+exactly_held = record { pair = wholes_held; on = whole; first = total (pos 0); Asked = Byte }
 
 -- ---- all steps
 

@@ -15,7 +15,7 @@ use Rattle.correlation.proofs.Turn.{Turns, turns_start, turns_go_on, turns_end}
 use Rattle.trellis.specs.declared.ConvCode.{ConvCode}
 use Rattle.trellis.specs.Inner.{Crossed}
 use Rattle.trellis.proofs.States.{states_two_halves}
-use Rattle.steps.specs.Holding.{Holding}
+use Rattle.steps.specs.Holding.{Holding, kind_of}
 use Rattle.steps.specs.Inner.{values, AllNear, Turned, Steps}
 use Rattle.steps.proofs.Lists.{map-set}
 
@@ -51,24 +51,25 @@ module _
 
 all_stored :
     {N : Type 0} (held : Holding N) {code : ConvCode} {half bound : ℕ} {next : List N} → 0 < code.width →
-    half ≡ 2 ^ (code.width - 1) → HoldBelow (held.pair.Near bound) held.kind.on.zero half next half → AllNear held code bound next
+    half ≡ 2 ^ (code.width - 1) → HoldBelow (held.pair.Near bound) held.on.zero half next half → AllNear held code bound next
 all_stored held {code} {half} {bound} {next} some halved below = record { each = each }
   where
-    each : (s : ℕ) → s < 2 ^ code.width → held.pair.Near bound (get_or next s held.kind.on.zero)
+    each : (s : ℕ) → s < 2 ^ code.width → held.pair.Near bound (get_or next s held.on.zero)
     each s h =
         elim (dec_lt s half) [
           | yes k ↦ (below s k).0
           | no k ↦ let back : (s - half) + half ≡ s = omega (arith, k) in
-              subst (λ (i : ℕ). held.pair.Near bound (get_or next i held.kind.on.zero)) back
+              subst (λ (i : ℕ). held.pair.Near bound (get_or next i held.on.zero)) back
               (below (s - half) (omega (arith, k, states_two_halves code some))).1
         ]
 
 -- the room of a state's metric, with any default
 pub room_held :
-    {N : Type 0} {held : Holding N} {code : ConvCode} {pm : List N} (d : N) {s : ℕ} → AllNear held code held.pair.limit pm → s < 2 ^ code.width →
+    {N : Type 0} {held : Holding N} {code : ConvCode} {pm : List N} (d : N) {s : ℕ} →
+    AllNear held code held.pair.limit pm → s < 2 ^ code.width →
     s < length pm → Room held.pair (get_or pm s d)
 room_held {held} {pm} d {s} roomy state within =
-    rw (any-default pm s d held.kind.on.zero within) (roomy.each s state)
+    rw (any-default pm s d held.on.zero within) (roomy.each s state)
 
 -- ---- the loop
 
@@ -76,11 +77,11 @@ room_held {held} {pm} d {s} roomy state within =
 pub record TurnsHeld
     {N : Type 0} (held : Holding N) (half : ℕ) (c0 c1 : List ℕ) (a b : N) (pm old : List N) (old_row : List ℕ) (next : List N)
     (row : List ℕ) (s n : ℕ) : Type 0 where
-  pub turns : Turns held.kind half c0 c1 a b (values held pm) (map held.pair.value old) old_row (map held.pair.value next) row s n
+  pub turns : Turns (kind_of held) half c0 c1 a b (values held pm) (map held.pair.value old) old_row (map held.pair.value next) row s n
   pub sized : length next ≡ length old
   pub near :
       (code : ConvCode) → Crossed code half c0 c1 → (bound : ℕ) → bound ≤ held.pair.limit → AllNear held code bound pm →
-      HoldBelow (held.pair.Near (bound + held.pair.reach)) held.kind.on.zero half next n
+      HoldBelow (held.pair.Near (bound + held.pair.reach)) held.on.zero half next n
 
 pub turns_held_start :
     {N : Type 0} (held : Holding N) {half : ℕ} {c0 c1 : List ℕ} {a b : N} {pm old : List N} {old_row : List ℕ} →
@@ -93,17 +94,19 @@ module _
     {row : List ℕ} {s n : ℕ} (now : TurnsHeld held half c0 c1 a b pm old old_row next row s n) where
   -- a turn, by what it says of the metrics of its two states
   module _
-      (lawful : Lawful held.kind.on) (h : n < half) (long : 2 * half ≤ length old) {m0 m1 : N}
-      (of_even : m0 ≡ get_or pm (2 * n) held.kind.on.zero) (of_odd : m1 ≡ get_or pm (2 * n + 1) held.kind.on.zero) {w : Wing N}
+      (lawful : Lawful held.on) (h : n < half) (long : 2 * half ≤ length old) {m0 m1 : N}
+      (of_even : m0 ≡ get_or pm (2 * n) held.on.zero) (of_odd : m1 ≡ get_or pm (2 * n + 1) held.on.zero) {w : Wing N}
       (turned : Turned held (get_or c0 n 0) (get_or c1 n 0) a b m0 m1 s w) where
     -- what a state's metric stands for
-    value_at_lem : (i : ℕ) {m : N} → m ≡ get_or pm i held.kind.on.zero → values held pm i ≡ held.pair.value m
-    value_at_lem i e = get_or-map held.pair.value pm i held.kind.on.zero ∙ ap held.pair.value (sym e)
+    value_at_lem : (i : ℕ) {m : N} → m ≡ get_or pm i held.on.zero → values held pm i ≡ held.pair.value m
+    value_at_lem i e = get_or-map held.pair.value pm i held.on.zero ∙ ap held.pair.value (sym e)
 
     abbrev stored : List N
     stored = set (set next n w.low.met) (n + half) w.high.met
 
-    stored_values : map held.pair.value stored ≡ set (set (map held.pair.value next) n (held.pair.value w.low.met)) (n + half) (held.pair.value w.high.met)
+    stored_values :
+        map held.pair.value stored
+        ≡ set (set (map held.pair.value next) n (held.pair.value w.low.met)) (n + half) (held.pair.value w.high.met)
     stored_values =
         map-set held.pair.value (set next n w.low.met) (n + half) w.high.met
         ∙ ap (λ (l : List held.pair.Value). set l (n + half) (held.pair.value w.high.met)) (map-set held.pair.value next n w.low.met)
@@ -129,7 +132,7 @@ module _
           near = λ code crossed bound few all.
               let new = new_near code crossed bound few all in
               rw e
-              (two_stored (held.pair.Near (bound + held.pair.reach)) held.kind.on.zero half next (omega (arith, long, now.sized)) n h
+              (two_stored (held.pair.Near (bound + held.pair.reach)) held.on.zero half next (omega (arith, long, now.sized)) n h
               _ _ new.0 new.1 (now.near code crossed bound few all));
         }
 
@@ -142,6 +145,6 @@ module _
         selects = turns_end now.turns past crossed (omega (arith, room, length-map old held.pair.value)) room';
         near = λ bound few all.
             all_stored held crossed.some crossed.halved
-            (subst (HoldBelow (held.pair.Near (bound + held.pair.reach)) held.kind.on.zero half next) end
+            (subst (HoldBelow (held.pair.Near (bound + held.pair.reach)) held.on.zero half next) end
             (now.near code crossed bound few all));
       }

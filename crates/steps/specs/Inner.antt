@@ -1,8 +1,7 @@
 -- What the functions ask and ensure, by the metrics as a decoder holds them: those stand for the metrics of the
 -- definitions, which are in crate `correlation`. Definitions only.
 use Rattle.std.specs.Prelude.{cond, List, map, ◌≡◌, ℕ, ◌+◌, ◌*◌, ◌^◌, ◌≤◌, ◌<◌, eqb, get_or}
-use Rattle.best_path.specs.Inner.{LedTo}
-use Rattle.best_path.specs.Pair.{Room, cell_held}
+use Rattle.best_path.specs.Pair.{Room, Summed}
 use Rattle.best_path.specs.declared.pair.Wing.{Wing}
 use Rattle.correlation.specs.Inner as any
 use Rattle.refusal.specs.Lent.{Lent}
@@ -10,27 +9,27 @@ use Rattle.trellis.specs.declared.ConvCode.{ConvCode}
 use Rattle.trellis.specs.declared.KeepPattern.{KeepPattern}
 use Rattle.trellis.specs.Choice.{keep_of}
 use Rattle.trellis.specs.Keep.{Keep}
-use Rattle.steps.specs.Holding.{Holding}
+use Rattle.steps.specs.Holding.{Holding, kind_of}
 
 module _ {N : Type 0} (held : Holding N) where
   -- ---- metrics as the code holds them
 
   -- what they stand for, and what those of a lent list of them do
   abbrev pub values : List N → ℕ → held.pair.Value
-  values pm s = get_or (map held.pair.value pm) s (held.pair.value held.kind.on.zero)
+  values pm s = get_or (map held.pair.value pm) s (held.pair.value held.on.zero)
 
   abbrev pub values_lent : Lent N → Lent held.pair.Value
   values_lent next = record { given = map held.pair.value next.given; left = map held.pair.value next.left }
 
   -- the metrics of the code's states, each of them that near
   pub record AllNear (code : ConvCode) (bound : ℕ) (pm : List N) : Type 0 where
-    pub each : (s : ℕ) → s < 2 ^ code.width → held.pair.Near bound (get_or pm s held.kind.on.zero)
+    pub each : (s : ℕ) → s < 2 ^ code.width → held.pair.Near bound (get_or pm s held.on.zero)
 
   -- ---- one turn
 
   -- a reading, or its negative where the coded bit is 1
   abbrev pub side : ℕ → N → N
-  side coded a = cond (eqb coded 0) a (held.kind.on.negative a)
+  side coded a = cond (eqb coded 0) a (held.on.negative a)
 
   -- `turn`: two readings, and room for the sums with them
   pub record Turnable (a b m0 m1 : N) (s : ℕ) : Type 0 where
@@ -42,14 +41,10 @@ module _ {N : Type 0} (held : Holding N) where
 
   -- `turn`: the states s and s + 1, of metrics m0 and m1, on either input, by what the coded pair c0 c1 and its
   -- opposite bring where the step reads a and b; the new metrics are not much further off
-  pub record Turned (c0 c1 : ℕ) (a b m0 m1 : N) (s : ℕ) (r : Wing N) : Type 0 where
-    pub led :
-        LedTo held.kind.op (held.pair.value m0) (held.pair.value m1) s (held.kind.on.plus (side c0 a) (side c1 b))
-        (held.kind.on.minus (held.kind.on.negative (side c0 a)) (side c1 b)) (cell_held held.pair r.low)
-        (cell_held held.pair r.high)
-    pub near :
-        (bound : ℕ) → bound ≤ held.pair.limit → held.pair.Near bound m0 → held.pair.Near bound m1 →
-        held.pair.Near (bound + held.pair.reach) r.low.met × held.pair.Near (bound + held.pair.reach) r.high.met
+  abbrev pub Turned : (c0 c1 : ℕ) (a b m0 m1 : N) (s : ℕ) → Wing N → Type 0
+  Turned c0 c1 a b m0 m1 s r =
+      Summed held.pair m0 m1 s (held.on.plus (side c0 a) (side c1 b))
+      (held.on.minus (held.on.negative (side c0 a)) (side c1 b)) r
 
   -- ---- one step
 
@@ -69,7 +64,7 @@ module _ {N : Type 0} (held : Holding N) where
 
   -- `step`, `step_of`: what the new metrics stand for, and that none is much further off
   pub record Steps (code : ConvCode) (pm : List N) (a b : N) (next : Lent N) (row : Lent ℕ) : Type 0 where
-    pub selects : any.Selects held.kind code (values pm) a b (values_lent next) row
+    pub selects : any.Selects (kind_of held) code (values pm) a b (values_lent next) row
     pub near :
         (bound : ℕ) → bound ≤ held.pair.limit → AllNear code bound pm → AllNear code (bound + held.pair.reach) next.left
 
@@ -77,11 +72,11 @@ module _ {N : Type 0} (held : Holding N) where
 
   -- the readings that so many steps use, of which each is as asked
   abbrev pub UsedAsked : (p : Keep) (steps : ℕ) (readings : List N) → Type 0
-  UsedAsked p steps readings = any.UsedEach held.Asked held.kind.on.zero p steps readings
+  UsedAsked p steps readings = any.UsedEach held.Asked held.on.zero p steps readings
 
   -- `value_at`: so is the reading of a kept place
   abbrev pub KeptAsked : (column : ℕ) → List N → (at : ℕ) → Type 0
-  KeptAsked column readings at = column ≡ 1 → held.Asked (get_or readings at held.kind.on.zero)
+  KeptAsked column readings at = column ≡ 1 → held.Asked (get_or readings at held.on.zero)
 
   -- `forward`
   pub record Runnable
@@ -92,5 +87,5 @@ module _ {N : Type 0} (held : Holding N) where
   -- `forward`: what state 0's last metric stands for, how far it is after so many steps, and the survivors
   pub record Runs
       (code : ConvCode) (p : Keep) (states steps : ℕ) (readings : List N) (r : N) (rows : Lent ℕ) : Type 0 where
-    pub ran : any.Runs held.kind code p states steps readings (held.pair.value r) rows
+    pub ran : any.Runs (kind_of held) code p states steps readings (held.pair.value r) rows
     pub near : held.pair.Near (held.pair.reach * steps) r

@@ -55,7 +55,7 @@ pub trait Readings<D: Decoder> {
     // The reading of a place: zero where it was deleted or is missing.
     fn value_at(&self, column: u8, at: usize) -> D::Number
         requires { KeptAsked D.held column (readings self.now) at }
-        ensures { result ≡ value_of D.held.kind.on.zero (filled (eqb column 1) (readings self.now) at) };
+        ensures { result ≡ value_of D.held.on.zero (filled (eqb column 1) (readings self.now) at) };
 }
 
 // One step that reads a and b: the new metrics go to the front of next, the survivors to the front of row.

@@ -5,5 +5,4 @@ use Rattle.signed_forward.proofs.ExactDecoder.turn.Goals as goal
 pub returns : goal.returns
 returns c =
     let fit = c.ranges in
-    let turned = rw (back _ fit.m0, back _ fit.m1, back _ fit.a, back _ fit.b) at c.turn.ensures in
-    record { led = turned.led; near = turned.near }
+    rw (back _ fit.m0, back _ fit.m1, back _ fit.a, back _ fit.b) at c.turn.ensures
