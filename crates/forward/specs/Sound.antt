@@ -2,13 +2,14 @@
 -- Assumes nothing.
 use mathlib.Core.Bool.{true, false}
 use mathlib.Core.Path.{◌≡◌, refl}
+use native.Mathlib.Omega.{arith}
 use lib.Ieee.{Float, nan, inf, fin, sub, neg, of_bits}
 use Rattle.butterflies.specs.Largest.{mark}
 use Rattle.correlation.proofs.Sides.{Lawful}
 use Rattle.f32s.specs.Single.{zero32}
 use Rattle.steps.specs.Holding.{Sound}
 use Rattle.forward.specs.Sums.{floats}
-use Rattle.forward.specs.Inner.{floats_held}
+use Rattle.forward.specs.Inner.{soft_held}
 
 neg-neg : (x : Float) → neg (neg x) ≡ x
 unfolding neg
@@ -22,15 +23,16 @@ pub floats_lawful : Lawful floats
 unfolding sub
 floats_lawful = record { subtracts = λ a b. refl; twice = neg-neg }
 
-pub floats_sound : Sound floats_held mark zero32
+pub soft_sound : Sound soft_held mark zero32
 unfolding of_bits
-floats_sound =
+soft_sound =
     record {
       lawful = floats_lawful;
       zero_asked = refl;
       of_mark = refl;
       of_first = refl;
-      mark_starts = tt;
-      first_starts = tt;
-      room = λ t h x k. tt;
+      mark_near = tt;
+      first_near = tt;
+      nearer = λ bound more h x k. tt;
+      room = omega arith;
     }

@@ -16,12 +16,12 @@ impl Decoder for Soft {
     ghost use Rattle.f32s.specs.Single.{zero32};
     ghost use Rattle.std.proofs.Common.{rules};
     ghost use Rattle.butterflies.specs.Largest.{mark};
-    ghost use Rattle.forward.specs.Inner.{floats_held};
-    ghost use Rattle.forward.specs.Sound.{floats_sound};
+    ghost use Rattle.forward.specs.Inner.{soft_held};
+    ghost use Rattle.forward.specs.Sound.{soft_sound};
 
     type Number = f32;
 
-    ghost held = { floats_held };
+    ghost held = { soft_held };
 
     ghost MARK = { mark };
 
@@ -37,7 +37,7 @@ impl Decoder for Soft {
         butterfly::<Largest>(m0, m1, s, x + y, -x - y)
     }
 
-    ghost sound = { floats_sound };
+    ghost sound = { soft_sound };
 
     ghost fit = { Prim.search rules };
 }

@@ -40,7 +40,8 @@ impl Order for Sums {
     ghost sound = { wholes_sound };
 }
 
-// A reading, or its negative where the coded bit is 1.
+// A reading, or its negative where the coded bit is 1. As of f32s; but here each operation is shown to fit, and one
+// function over both would need a method for each operator.
 fn signed(coded: u32, a: i32) -> i32
     requires { Byte a }
     ensures { result ≡ side coded a }

@@ -1,10 +1,10 @@
 -- How the decoder holds its metrics, which stand for the totals of the decoder in whole numbers, so that no sum
 -- overflows; and what it asks of readings. Definitions only.
 use Rattle.std.specs.Prelude.{List, ℕ, ◌*◌, ℤ, pos, negsuc}
-use Rattle.best_path.specs.Path.{Total}
+use Rattle.best_path.specs.Path.{total}
 use Rattle.correlation.specs.Inner as any
-use Rattle.correlation.specs.Whole.{exactly}
-use Rattle.signed_butterflies.specs.Held.{Byte, Near, Room, total_of}
+use Rattle.correlation.specs.Whole.{whole, exactly}
+use Rattle.signed_butterflies.specs.Held.{Byte, Near, total_of, wholes_held}
 use Rattle.steps.specs.Holding.{Holding}
 use Rattle.trellis.specs.Keep.{Keep}
 
@@ -14,17 +14,9 @@ use Rattle.trellis.specs.Keep.{Keep}
 abbrev pub mark : ℤ
 mark = negsuc 1073741823
 
--- a number stands for a total; after so many steps it is that near to a sum or to the mark
-abbrev pub wholes_held : Holding ℤ
-wholes_held =
-    record {
-      Value = Total;
-      value = total_of;
-      kind = exactly;
-      Asked = Byte;
-      Room = Room;
-      After = λ (t : ℕ) (x : ℤ). Near (254 * t) x;
-    }
+-- the decoder: by whole sums, of readings from −127 to 127
+abbrev pub exactly_held : Holding ℤ
+exactly_held = record { pair = wholes_held; on = whole; first = total (pos 0); Asked = Byte }
 
 -- ---- all steps
 

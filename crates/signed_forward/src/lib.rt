@@ -13,12 +13,12 @@ pub struct Exact;
 impl Decoder for Exact {
     ghost use Rattle.std.specs.Prelude.{pos, refl};
     ghost use Rattle.std.proofs.Common.{rules};
-    ghost use Rattle.signed_forward.specs.Inner.{mark, wholes_held};
-    ghost use Rattle.signed_forward.specs.Sound.{wholes_sound};
+    ghost use Rattle.signed_forward.specs.Inner.{mark, exactly_held};
+    ghost use Rattle.signed_forward.specs.Sound.{exactly_sound};
 
     type Number = i32;
 
-    ghost held = { wholes_held };
+    ghost held = { exactly_held };
 
     ghost MARK = { mark };
 
@@ -32,7 +32,7 @@ impl Decoder for Exact {
         signed_butterflies::turn(c0, c1, a, b, m0, m1, s)
     }
 
-    ghost sound = { wholes_sound mark refl refl };
+    ghost sound = { exactly_sound mark refl refl };
 
     ghost fit = { Prim.search rules };
 }

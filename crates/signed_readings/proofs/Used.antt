@@ -22,7 +22,7 @@ use Rattle.signed_butterflies.proofs.Words.{small_fits, back}
 use Rattle.signed_forward.specs.Inner.{UsedBytes}
 use Rattle.trellis.specs.Choice.{keep_of}
 use Rattle.trellis.specs.Codeword.{steps_of}
-use Rattle.signed_forward.specs.Inner.{wholes_held}
+use Rattle.signed_forward.specs.Inner.{exactly_held}
 use Rattle.steps.specs.Inner as steps
 use Rattle.signed_readings.specs.Inner.{Finds, FirstLow}
 use Rattle.signed_readings.proofs.Score.{finds_score}
@@ -47,11 +47,11 @@ sums_fit is = omega (arith, call_few is, (chosen_narrow is.ready.chosen).narrow)
 pub score_found :
     {code rate info count room scratch : ℕ} {p : Prepared} {readings : List ℤ} {r : ℤ} {out work : Lent ℕ} →
     Prepares code rate info count room scratch (Ok p) →
-    steps.Finds wholes_held p.chosen.code (keep_of p.chosen.keep) (2 * p.half) info readings r out work →
+    steps.Finds exactly_held p.chosen.code (keep_of p.chosen.keep) (2 * p.half) info readings r out work →
     Finds p.chosen.code (keep_of p.chosen.keep) (2 * p.half) info readings r out work
 score_found is finds =
     let narrow = chosen_narrow is.ready.chosen in
-    finds_score narrow.some (omega (arith, call_few is, narrow.narrow)) finds.after finds.found
+    finds_score narrow.some (omega (arith, call_few is, narrow.narrow)) finds.near finds.found
 
 pub scored_back : {r : ℤ} {m : Total} → total r ≡ m → nat_abs r < 2147483648 → accepted (to_z w32 (of_z w32 r)) ≡ accepted (count_of m)
 scored_back {r} {m} e small = ap accepted (back r (small_fits r small) ∙ ap count_of e)

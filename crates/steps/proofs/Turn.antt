@@ -7,6 +7,7 @@ use native.Mathlib.Decide.{dec_lt}
 use native.Mathlib.Omega.{arith}
 use lib.ListN.{length, get_or, set, length-set, length-map, get_or-map}
 use lib.Seq.{get_or-set_same, get_or-set_other}
+use Rattle.best_path.specs.Pair.{Room}
 use Rattle.best_path.specs.declared.pair.Wing.{Wing}
 use Rattle.best_path.proofs.Survivors.{any-default}
 use Rattle.correlation.proofs.Sides.{Lawful}
@@ -14,8 +15,8 @@ use Rattle.correlation.proofs.Turn.{Turns, turns_start, turns_go_on, turns_end}
 use Rattle.trellis.specs.declared.ConvCode.{ConvCode}
 use Rattle.trellis.specs.Inner.{Crossed}
 use Rattle.trellis.proofs.States.{states_two_halves}
-use Rattle.steps.specs.Holding.{Holding}
-use Rattle.steps.specs.Inner.{values, AllRoom, AllAfter, Turned, Steps}
+use Rattle.steps.specs.Holding.{Holding, kind_of}
+use Rattle.steps.specs.Inner.{values, AllNear, Turned, Steps}
 use Rattle.steps.proofs.Lists.{map-set}
 
 -- each new metric so far has a property; d stands for one past the end
@@ -49,25 +50,26 @@ module _
       ]
 
 all_stored :
-    {N : Type 0} (held : Holding N) {code : ConvCode} {half t : ℕ} {next : List N} → 0 < code.width →
-    half ≡ 2 ^ (code.width - 1) → HoldBelow (held.After t) held.kind.on.zero half next half → AllAfter held code t next
-all_stored held {code} {half} {t} {next} some halved below = record { each = each }
+    {N : Type 0} (held : Holding N) {code : ConvCode} {half bound : ℕ} {next : List N} → 0 < code.width →
+    half ≡ 2 ^ (code.width - 1) → HoldBelow (held.pair.Near bound) held.on.zero half next half → AllNear held code bound next
+all_stored held {code} {half} {bound} {next} some halved below = record { each = each }
   where
-    each : (s : ℕ) → s < 2 ^ code.width → held.After t (get_or next s held.kind.on.zero)
+    each : (s : ℕ) → s < 2 ^ code.width → held.pair.Near bound (get_or next s held.on.zero)
     each s h =
         elim (dec_lt s half) [
           | yes k ↦ (below s k).0
           | no k ↦ let back : (s - half) + half ≡ s = omega (arith, k) in
-              subst (λ (i : ℕ). held.After t (get_or next i held.kind.on.zero)) back
+              subst (λ (i : ℕ). held.pair.Near bound (get_or next i held.on.zero)) back
               (below (s - half) (omega (arith, k, states_two_halves code some))).1
         ]
 
 -- the room of a state's metric, with any default
 pub room_held :
-    {N : Type 0} {held : Holding N} {code : ConvCode} {pm : List N} (d : N) {s : ℕ} → AllRoom held code pm → s < 2 ^ code.width →
-    s < length pm → held.Room (get_or pm s d)
+    {N : Type 0} {held : Holding N} {code : ConvCode} {pm : List N} (d : N) {s : ℕ} →
+    AllNear held code held.pair.limit pm → s < 2 ^ code.width →
+    s < length pm → Room held.pair (get_or pm s d)
 room_held {held} {pm} d {s} roomy state within =
-    rw (any-default pm s d held.kind.on.zero within) (roomy.each s state)
+    rw (any-default pm s d held.on.zero within) (roomy.each s state)
 
 -- ---- the loop
 
@@ -75,44 +77,46 @@ room_held {held} {pm} d {s} roomy state within =
 pub record TurnsHeld
     {N : Type 0} (held : Holding N) (half : ℕ) (c0 c1 : List ℕ) (a b : N) (pm old : List N) (old_row : List ℕ) (next : List N)
     (row : List ℕ) (s n : ℕ) : Type 0 where
-  pub turns : Turns held.kind half c0 c1 a b (values held pm) (map held.value old) old_row (map held.value next) row s n
+  pub turns : Turns (kind_of held) half c0 c1 a b (values held pm) (map held.pair.value old) old_row (map held.pair.value next) row s n
   pub sized : length next ≡ length old
-  pub after :
-      (code : ConvCode) → Crossed code half c0 c1 → (t : ℕ) → t < 65536 → AllAfter held code t pm →
-      HoldBelow (held.After (t + 1)) held.kind.on.zero half next n
+  pub near :
+      (code : ConvCode) → Crossed code half c0 c1 → (bound : ℕ) → bound ≤ held.pair.limit → AllNear held code bound pm →
+      HoldBelow (held.pair.Near (bound + held.pair.reach)) held.on.zero half next n
 
 pub turns_held_start :
     {N : Type 0} (held : Holding N) {half : ℕ} {c0 c1 : List ℕ} {a b : N} {pm old : List N} {old_row : List ℕ} →
     TurnsHeld held half c0 c1 a b pm old old_row old old_row 0 0
 turns_held_start held =
-    record { turns = turns_start; sized = refl; after = λ code crossed t few after j h. absurd (omega (arith, h)) }
+    record { turns = turns_start; sized = refl; near = λ code crossed bound few all j h. absurd (omega (arith, h)) }
 
 module _
     {N : Type 0} {held : Holding N} {half : ℕ} {c0 c1 : List ℕ} {a b : N} {pm old : List N} {old_row : List ℕ} {next : List N}
     {row : List ℕ} {s n : ℕ} (now : TurnsHeld held half c0 c1 a b pm old old_row next row s n) where
   -- a turn, by what it says of the metrics of its two states
   module _
-      (lawful : Lawful held.kind.on) (h : n < half) (long : 2 * half ≤ length old) {m0 m1 : N}
-      (of_even : m0 ≡ get_or pm (2 * n) held.kind.on.zero) (of_odd : m1 ≡ get_or pm (2 * n + 1) held.kind.on.zero) {w : Wing N}
+      (lawful : Lawful held.on) (h : n < half) (long : 2 * half ≤ length old) {m0 m1 : N}
+      (of_even : m0 ≡ get_or pm (2 * n) held.on.zero) (of_odd : m1 ≡ get_or pm (2 * n + 1) held.on.zero) {w : Wing N}
       (turned : Turned held (get_or c0 n 0) (get_or c1 n 0) a b m0 m1 s w) where
     -- what a state's metric stands for
-    value_at_lem : (i : ℕ) {m : N} → m ≡ get_or pm i held.kind.on.zero → values held pm i ≡ held.value m
-    value_at_lem i e = get_or-map held.value pm i held.kind.on.zero ∙ ap held.value (sym e)
+    value_at_lem : (i : ℕ) {m : N} → m ≡ get_or pm i held.on.zero → values held pm i ≡ held.pair.value m
+    value_at_lem i e = get_or-map held.pair.value pm i held.on.zero ∙ ap held.pair.value (sym e)
 
     abbrev stored : List N
     stored = set (set next n w.low.met) (n + half) w.high.met
 
-    stored_values : map held.value stored ≡ set (set (map held.value next) n (held.value w.low.met)) (n + half) (held.value w.high.met)
+    stored_values :
+        map held.pair.value stored
+        ≡ set (set (map held.pair.value next) n (held.pair.value w.low.met)) (n + half) (held.pair.value w.high.met)
     stored_values =
-        map-set held.value (set next n w.low.met) (n + half) w.high.met
-        ∙ ap (λ (l : List held.Value). set l (n + half) (held.value w.high.met)) (map-set held.value next n w.low.met)
+        map-set held.pair.value (set next n w.low.met) (n + half) w.high.met
+        ∙ ap (λ (l : List held.pair.Value). set l (n + half) (held.pair.value w.high.met)) (map-set held.pair.value next n w.low.met)
 
-    new_after :
-        (code : ConvCode) → Crossed code half c0 c1 → (t : ℕ) → t < 65536 → AllAfter held code t pm →
-        held.After (t + 1) w.low.met × held.After (t + 1) w.high.met
-    new_after code crossed t few all =
+    new_near :
+        (code : ConvCode) → Crossed code half c0 c1 → (bound : ℕ) → bound ≤ held.pair.limit → AllNear held code bound pm →
+        held.pair.Near (bound + held.pair.reach) w.low.met × held.pair.Near (bound + held.pair.reach) w.high.met
+    new_near code crossed bound few all =
         let states = states_two_halves code crossed.some in
-        turned.after t few (rw of_even (all.each (2 * n) (omega (arith, states, crossed.halved))))
+        turned.near bound few (rw of_even (all.each (2 * n) (omega (arith, states, crossed.halved))))
         (rw of_odd (all.each (2 * n + 1) (omega (arith, states, crossed.halved))))
 
     pub turns_held_go_on :
@@ -123,13 +127,13 @@ module _
         record {
           turns =
               turns_go_on now.turns lawful h refl refl (rw (value_at_lem (2 * n) of_even, value_at_lem (2 * n + 1) of_odd) turned.led)
-              (ap (map held.value) e ∙ stored_values) f;
+              (ap (map held.pair.value) e ∙ stored_values) f;
           sized = rw e (simp length-set now.sized);
-          after = λ code crossed t few all.
-              let new = new_after code crossed t few all in
+          near = λ code crossed bound few all.
+              let new = new_near code crossed bound few all in
               rw e
-              (two_stored (held.After (t + 1)) held.kind.on.zero half next (omega (arith, long, now.sized)) n h _ _ new.0 new.1
-              (now.after code crossed t few all));
+              (two_stored (held.pair.Near (bound + held.pair.reach)) held.on.zero half next (omega (arith, long, now.sized)) n h
+              _ _ new.0 new.1 (now.near code crossed bound few all));
         }
 
   pub turns_held_end :
@@ -138,8 +142,9 @@ module _
   turns_held_end {code} past crossed room room' =
       let end : n ≡ half = omega (arith, now.turns.paired.turns) in
       record {
-        selects = turns_end now.turns past crossed (omega (arith, room, length-map old held.value)) room';
-        after = λ t few all.
+        selects = turns_end now.turns past crossed (omega (arith, room, length-map old held.pair.value)) room';
+        near = λ bound few all.
             all_stored held crossed.some crossed.halved
-            (subst (HoldBelow (held.After (t + 1)) held.kind.on.zero half next) end (now.after code crossed t few all));
+            (subst (HoldBelow (held.pair.Near (bound + held.pair.reach)) held.on.zero half next) end
+            (now.near code crossed bound few all));
       }

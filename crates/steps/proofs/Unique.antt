@@ -14,7 +14,7 @@ pub runs_once :
     (code, (half, (keep, (readings, (steps, (rows, tt)))))) r (code, (half, (keep, (readings, (steps, (left, tt)))))) →
     forward.Post D R N D_laws R_laws N_laws copied decoder decoder_dict clones clones_dict source source_dict κs
     (code, (half, (keep, (readings, (steps, (rows, tt)))))) r' (code, (half, (keep, (readings, (steps, (left', tt)))))) →
-    (decoder.held.value r ≡ decoder.held.value r') × (left.now ≡ left'.now)
+    (decoder.held.pair.value r ≡ decoder.held.pair.value r') × (left.now ≡ left'.now)
 runs_once D R N D_laws R_laws N_laws copied decoder decoder_dict clones clones_dict source source_dict κs code half keep readings
     steps rows r r' left left' p q = (p.ran.last ∙ sym q.ran.last, p.ran.survivors ∙ sym q.ran.survivors)
 
@@ -28,7 +28,7 @@ pub decodes_once :
     decode.Post D R N D_laws R_laws N_laws copied decoder decoder_dict clones clones_dict source source_dict κs
     (code, (half, (keep, (readings, (info, (out, (scratch, tt))))))) r'
     (code, (half, (keep, (readings, (info, (left', (work', tt))))))) →
-    (decoder.held.value r ≡ decoder.held.value r') × (left.now ≡ left'.now) × (work.now ≡ work'.now)
+    (decoder.held.pair.value r ≡ decoder.held.pair.value r') × (left.now ≡ left'.now) × (work.now ≡ work'.now)
 decodes_once D R N D_laws R_laws N_laws copied decoder decoder_dict clones clones_dict source source_dict κs code half keep readings
     info out scratch r r' left left' work work' p q = (
       p.found.scored ∙ sym q.found.scored,

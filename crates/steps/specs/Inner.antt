@@ -1,9 +1,7 @@
 -- What the functions ask and ensure, by the metrics as a decoder holds them: those stand for the metrics of the
 -- definitions, which are in crate `correlation`. Definitions only.
-use Rattle.std.specs.Prelude.{cond, List, map, ◌≡◌, ℕ, ◌+◌, ◌^◌, ◌<◌, eqb, get_or}
-use Rattle.best_path.specs.Inner.{LedTo}
-use Rattle.best_path.specs.Step.{Cell}
-use Rattle.best_path.specs.declared.pair.NewState.{NewState}
+use Rattle.std.specs.Prelude.{cond, List, map, ◌≡◌, ℕ, ◌+◌, ◌*◌, ◌^◌, ◌≤◌, ◌<◌, eqb, get_or}
+use Rattle.best_path.specs.Pair.{Room, Summed}
 use Rattle.best_path.specs.declared.pair.Wing.{Wing}
 use Rattle.correlation.specs.Inner as any
 use Rattle.refusal.specs.Lent.{Lent}
@@ -12,52 +10,42 @@ use Rattle.trellis.specs.declared.KeepPattern.{KeepPattern}
 use Rattle.trellis.specs.Choice.{keep_of}
 use Rattle.trellis.specs.Codeword.{steps_of}
 use Rattle.trellis.specs.Keep.{Keep}
-use Rattle.steps.specs.Holding.{Holding}
+use Rattle.steps.specs.Holding.{Holding, kind_of}
 
 module _ {N : Type 0} (held : Holding N) where
   -- ---- metrics as the code holds them
 
   -- what they stand for, and what those of a lent list of them do
-  abbrev pub values : List N → ℕ → held.Value
-  values pm s = get_or (map held.value pm) s (held.value held.kind.on.zero)
+  abbrev pub values : List N → ℕ → held.pair.Value
+  values pm s = get_or (map held.pair.value pm) s (held.pair.value held.on.zero)
 
-  abbrev pub values_lent : Lent N → Lent held.Value
-  values_lent next = record { given = map held.value next.given; left = map held.value next.left }
+  abbrev pub values_lent : Lent N → Lent held.pair.Value
+  values_lent next = record { given = map held.pair.value next.given; left = map held.pair.value next.left }
 
-  -- the metrics of the code's states: each has room for one more step, or is one after so many
-  pub record AllRoom (code : ConvCode) (pm : List N) : Type 0 where
-    pub each : (s : ℕ) → s < 2 ^ code.width → held.Room (get_or pm s held.kind.on.zero)
-
-  pub record AllAfter (code : ConvCode) (t : ℕ) (pm : List N) : Type 0 where
-    pub each : (s : ℕ) → s < 2 ^ code.width → held.After t (get_or pm s held.kind.on.zero)
+  -- the metrics of the code's states, each of them that near
+  pub record AllNear (code : ConvCode) (bound : ℕ) (pm : List N) : Type 0 where
+    pub each : (s : ℕ) → s < 2 ^ code.width → held.pair.Near bound (get_or pm s held.on.zero)
 
   -- ---- one turn
 
-  -- a new state as the code holds it
-  abbrev pub cell_held : NewState N → Cell held.Value
-  cell_held z = record { met = held.value z.met; from = z.from }
-
   -- a reading, or its negative where the coded bit is 1
   abbrev pub side : ℕ → N → N
-  side coded a = cond (eqb coded 0) a (held.kind.on.negative a)
+  side coded a = cond (eqb coded 0) a (held.on.negative a)
 
   -- `turn`: two readings, and room for the sums with them
   pub record Turnable (a b m0 m1 : N) (s : ℕ) : Type 0 where
     pub state : s < 255
     pub first : held.Asked a
     pub second : held.Asked b
-    pub even : held.Room m0
-    pub odd : held.Room m1
+    pub even : Room held.pair m0
+    pub odd : Room held.pair m1
 
   -- `turn`: the states s and s + 1, of metrics m0 and m1, on either input, by what the coded pair c0 c1 and its
-  -- opposite bring where the step reads a and b; the new metrics are those of one more step
-  pub record Turned (c0 c1 : ℕ) (a b m0 m1 : N) (s : ℕ) (r : Wing N) : Type 0 where
-    pub led :
-        LedTo held.kind.op (held.value m0) (held.value m1) s (held.kind.on.plus (side c0 a) (side c1 b))
-        (held.kind.on.minus (held.kind.on.negative (side c0 a)) (side c1 b)) (cell_held r.low) (cell_held r.high)
-    pub after :
-        (t : ℕ) → t < 65536 → held.After t m0 → held.After t m1 →
-        held.After (t + 1) r.low.met × held.After (t + 1) r.high.met
+  -- opposite bring where the step reads a and b; the new metrics are not much further off
+  abbrev pub Turned : (c0 c1 : ℕ) (a b m0 m1 : N) (s : ℕ) → Wing N → Type 0
+  Turned c0 c1 a b m0 m1 s r =
+      Summed held.pair m0 m1 s (held.on.plus (side c0 a) (side c1 b))
+      (held.on.minus (held.on.negative (side c0 a)) (side c1 b)) r
 
   -- ---- one step
 
@@ -67,7 +55,7 @@ module _ {N : Type 0} (held : Holding N) where
     pub shaped : any.Steppable code half c0 c1 row
     pub first : held.Asked a
     pub second : held.Asked b
-    pub roomy : AllRoom code pm
+    pub roomy : AllNear code held.pair.limit pm
 
   -- `step_of`: the same, for the numbers of states that the loop is compiled for
   pub record SteppableOf
@@ -75,20 +63,21 @@ module _ {N : Type 0} (held : Holding N) where
     pub ready : Steppable code half c0 c1 a b pm row
     pub compiled : any.Compiled half
 
-  -- `step`, `step_of`: what the new metrics stand for, and that they are those of one more step
+  -- `step`, `step_of`: what the new metrics stand for, and that none is much further off
   pub record Steps (code : ConvCode) (pm : List N) (a b : N) (next : Lent N) (row : Lent ℕ) : Type 0 where
-    pub selects : any.Selects held.kind code (values pm) a b (values_lent next) row
-    pub after : (t : ℕ) → t < 65536 → AllAfter code t pm → AllAfter code (t + 1) next.left
+    pub selects : any.Selects (kind_of held) code (values pm) a b (values_lent next) row
+    pub near :
+        (bound : ℕ) → bound ≤ held.pair.limit → AllNear code bound pm → AllNear code (bound + held.pair.reach) next.left
 
   -- ---- all steps
 
   -- the readings that so many steps use, of which each is as asked
   abbrev pub UsedAsked : (p : Keep) (steps : ℕ) (readings : List N) → Type 0
-  UsedAsked p steps readings = any.UsedEach held.Asked held.kind.on.zero p steps readings
+  UsedAsked p steps readings = any.UsedEach held.Asked held.on.zero p steps readings
 
   -- `value_at`: so is the reading of a kept place
   abbrev pub KeptAsked : (column : ℕ) → List N → (at : ℕ) → Type 0
-  KeptAsked column readings at = column ≡ 1 → held.Asked (get_or readings at held.kind.on.zero)
+  KeptAsked column readings at = column ≡ 1 → held.Asked (get_or readings at held.on.zero)
 
   -- `forward`
   pub record Runnable
@@ -96,11 +85,11 @@ module _ {N : Type 0} (held : Holding N) where
     pub shaped : any.Runnable code half keep steps rows
     pub used : UsedAsked (keep_of keep) steps readings
 
-  -- `forward`: what state 0's last metric stands for, that it is one after so many steps, and the survivors
+  -- `forward`: what state 0's last metric stands for, how far it is after so many steps, and the survivors
   pub record Runs
       (code : ConvCode) (p : Keep) (states steps : ℕ) (readings : List N) (r : N) (rows : Lent ℕ) : Type 0 where
-    pub ran : any.Runs held.kind code p states steps readings (held.value r) rows
-    pub after : held.After steps r
+    pub ran : any.Runs (kind_of held) code p states steps readings (held.pair.value r) rows
+    pub near : held.pair.Near (held.pair.reach * steps) r
 
   -- ---- the decoding
 
@@ -111,8 +100,8 @@ module _ {N : Type 0} (held : Holding N) where
     pub shaped : any.Decodable code half keep info out scratch
     pub used : UsedAsked (keep_of keep) (steps_of code info) readings
 
-  -- `decode`: what the score stands for, that it is a metric after all steps, the word and the survivors
+  -- `decode`: what the score stands for, how far it is after all steps, the word and the survivors
   pub record Finds
       (code : ConvCode) (p : Keep) (states info : ℕ) (readings : List N) (r : N) (out scratch : Lent ℕ) : Type 0 where
-    pub found : any.Finds held.kind code p states info readings (held.value r) out scratch
-    pub after : held.After (steps_of code info) r
+    pub found : any.Finds (kind_of held) code p states info readings (held.pair.value r) out scratch
+    pub near : held.pair.Near (held.pair.reach * steps_of code info) r

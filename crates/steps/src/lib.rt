@@ -56,12 +56,13 @@ pub trait Readings<D: Decoder> {
     // The reading of a place: zero where it was deleted or is missing.
     fn value_at(&self, column: u8, at: usize) -> D::Number
         requires { KeptAsked D.held column (readings self.now) at }
-        ensures { result ≡ value_of D.held.kind.on.zero (filled (eqb column 1) (readings self.now) at) };
+        ensures { result ≡ value_of D.held.on.zero (filled (eqb column 1) (readings self.now) at) };
 }
 
 // One step that reads a and b: the new metrics go to the front of next, the survivors to the front of row.
 // Survivor numbers come from a counter of their own: made from n they keep the loop from being
-// vectorised well.
+// vectorised well. A turn reads four arrays and writes both halves of two, by one index: chained iterators for that are
+// no plainer.
 fn step<D: Decoder>(
     code: ConvCode,
     half: usize,

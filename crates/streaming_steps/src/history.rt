@@ -21,7 +21,7 @@ pub fn keep(pm: &[f32; 16], froms: &[u8; 16], at: usize, history: &mut [u8; 2048
     requires { RowAt at }
     ensures { Keeps pm.now froms.now at (lent history) }
 {
-    // Lent as slices, the arrays tell their lengths.
+    // Lent as slices, the arrays tell their lengths. One index serves all three: zipped they read no plainer.
     let mets = &pm[..];
     let news = &froms[..];
     let whole = &history[..];

@@ -25,11 +25,9 @@ pub fn select(re: f32, im: f32, pm: &[f32; 16], next: &mut [f32; 16], froms: &mu
 fn least_of(pm: &[f32; 16]) -> f32
     ensures { result ≡ least_of pm.now (2 ^ k5.width) }
 {
-    // Lent as a slice, the array tells its length.
-    let whole = &pm[..];
     let mut least = MARK;
-    for s in 0..16 {
-        least = better_of::<Smallest>(least, pm[s]);
+    for &m in pm {
+        least = better_of::<Smallest>(least, m);
     }
     least
 }
@@ -45,12 +43,10 @@ fn lower(least: f32, m: f32) -> f32
 fn subtract_least(pm: &mut [f32; 16])
     ensures { pm.new ≡ normalised (2 ^ k5.width) pm.old }
 {
-    // Lent as a slice, the array tells its length.
-    let whole = &pm[..];
     let least = least_of(pm);
     if 0.0 < least {
-        for s in 0..16 {
-            pm[s] = lower(least, pm[s]);
+        for m in pm {
+            *m = lower(least, *m);
         }
     }
 }

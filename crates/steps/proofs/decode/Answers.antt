@@ -15,5 +15,5 @@ pub returns : goal.returns
 returns g c =
     record {
       found = way_finds c.requires.shaped c.forward-score.ensures.ran c.trace.ensures;
-      after = c.forward-score.ensures.after;
+      near = c.forward-score.ensures.near;
     }

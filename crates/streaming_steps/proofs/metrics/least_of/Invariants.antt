@@ -2,5 +2,5 @@
 use Rattle.streaming_steps.proofs.Normal.{LeastBelow}
 use Rattle.streaming_steps.proofs.metrics.least_of.Given as goal
 
-abbrev pub invariant-loop-s : goal.invariant-loop-s
-invariant-loop-s l = LeastBelow l.pm l.s l.least
+abbrev pub invariant-loop-m : goal.invariant-loop-m
+invariant-loop-m l = LeastBelow l.pm l.m-index l.least

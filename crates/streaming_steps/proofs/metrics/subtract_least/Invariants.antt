@@ -2,5 +2,5 @@
 use Rattle.streaming_steps.proofs.Normal.{Lowering}
 use Rattle.streaming_steps.proofs.metrics.subtract_least.Given as goal
 
-abbrev pub invariant-loop-s : goal.invariant-loop-s
-invariant-loop-s l = Lowering l.initial.pm l.least l.s l.pm
+abbrev pub invariant-loop-m : goal.invariant-loop-m
+invariant-loop-m l = Lowering l.initial.m-items l.least l.m-index l.m-items
