@@ -1,5 +1,6 @@
 -- Numbers and words as the program writes them, in ASCII. Definitions only.
-use Rattle.std.specs.Prelude.{cond, List, [], ◌∷◌, ◌++◌, map, ℕ, zero, suc, ◌+◌, ◌/◌, ◌%◌, ltb, eqb}
+use Rattle.std.specs.Prelude.{cond, List, [], ◌∷◌, ◌++◌, map, drop, replicate, ◌≡◌}
+use Rattle.std.specs.Prelude.{ℕ, zero, suc, ◌+◌, ◌-◌, ◌/◌, ◌%◌, ◌≤◌, ltb, eqb}
 
 -- 0 to 9, then A to F
 abbrev pub digit : ℕ → ℕ
@@ -26,3 +27,8 @@ bit_text b = cond (eqb b 0) 48 49
 abbrev pub word_text : List ℕ → List ℕ
 word_text [] = 45 ∷ []
 word_text (b ∷ bits) = map bit_text (b ∷ bits)
+
+-- a line's bytes: its text within the room, and zeros behind it
+pub record Written (room len : ℕ) (bytes : List ℕ) : Type 0 where
+  pub within : len ≤ room
+  pub behind : drop len bytes ≡ replicate (room - len) 0

@@ -17,13 +17,14 @@ pub struct Line<const ROOM: usize> {
 }
 
 impl<const ROOM: usize> Model for Line<ROOM> {
-    ghost use Rattle.std.specs.Prelude.{ℕ, ◌≤◌, ◌-◌, ◌≡◌, List, take, drop, replicate};
+    ghost use Rattle.std.specs.Prelude.{ℕ, List, take};
+    ghost use Rattle.text.specs.Text.{Written};
 
     ghost Value = { List ℕ };
 
     ghost view = { λ l. take l.len l.bytes };
 
-    ghost invariant = { λ l. (l.len ≤ ROOM) × (drop l.len l.bytes ≡ replicate (ROOM - l.len) 0) };
+    ghost invariant = { λ l. Written ROOM l.len l.bytes };
 }
 
 impl<const ROOM: usize> Line<ROOM> {

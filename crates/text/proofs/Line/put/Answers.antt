@@ -10,8 +10,12 @@ use Rattle.text.proofs.Line.put.Goals as goal
 pub invariant_of-self : goal.invariant_of-self
 invariant_of-self g c =
     let line = c.self.inside in
-    let end = line.len + length c.args.text.now in (
-      search rules,
-      drop-put_mid line.len (end - line.len) line.bytes _ end (omega arith) (omega (arith, c.self.invariant)) (omega (arith, c.copy_from_slice.ensures))
-          ∙ zeros_stay line.len (length c.args.text.now) g.row.ROOM line.bytes c.self.invariant.1,
-    )
+    let more = length c.args.text.now in
+    let end = line.len + more in
+    let sized = c.copy_from_slice.ensures in
+    record {
+      within = search rules;
+      behind =
+          drop-put_mid line.len (end - line.len) line.bytes _ end (omega arith) (omega (arith, c.self.invariant)) (omega (arith, sized))
+          ∙ zeros_stay line.len more g.row.ROOM line.bytes c.self.invariant.behind;
+    }

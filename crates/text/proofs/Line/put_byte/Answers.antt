@@ -9,8 +9,10 @@ use Rattle.text.proofs.Line.put_byte.Goals as goal
 
 pub invariant_of-self : goal.invariant_of-self
 invariant_of-self g c =
-    let line = c.self.inside in (
-      search rules,
-      drop-set-lt (line.len + 1) line.bytes line.len c.args.byte (omega arith)
-          ∙ zeros_stay line.len 1 g.row.ROOM line.bytes c.self.invariant.1,
-    )
+    let line = c.self.inside in
+    record {
+      within = search rules;
+      behind =
+          drop-set-lt (line.len + 1) line.bytes line.len c.args.byte (omega arith)
+          ∙ zeros_stay line.len 1 g.row.ROOM line.bytes c.self.invariant.behind;
+    }
