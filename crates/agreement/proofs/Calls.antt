@@ -25,7 +25,7 @@ use Rattle.readings.specs.Promise as readings
 use Rattle.readings.proofs.viterbi_decode_soft_with.Reads as viterbi_decode_soft_with
 use Rattle.std.specs.Prelude.{Result}
 use Rattle.refusal.specs.declared.Refusal.{Refusal}
-use Rattle.refusal.specs.Answer.{answer_said, Says, Said, accepted, said_as}
+use Rattle.refusal.specs.Answer.{Says, Said, accepted, said_as}
 use Rattle.refusal.specs.Lent.{over, leaves, Lent}
 use Rattle.signed_readings.specs.Promise as signed_readings
 use Rattle.signed_readings.specs.Said.{is_reading, count_of, decode_said}

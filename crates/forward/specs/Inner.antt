@@ -6,7 +6,7 @@ use Rattle.correlation.specs.Inner as any
 use Rattle.f32s.specs.Single.{zero32, finite}
 use Rattle.steps.specs.Holding.{Holding}
 use Rattle.trellis.specs.Keep.{Keep}
-use Rattle.forward.specs.Sums.{floats, soft}
+use Rattle.forward.specs.Sums.{floats}
 
 -- the readings that so many steps use: each is finite
 abbrev pub IsFinite : Float → Type 0

@@ -1,10 +1,10 @@
 -- How the decoder holds its metrics, which stand for the totals of the decoder in whole numbers, so that no sum
 -- overflows; and what it asks of readings. Definitions only.
-use Rattle.std.specs.Prelude.{List, ℕ, ◌*◌, ℤ, pos, negsuc}
+use Rattle.std.specs.Prelude.{List, ℕ, ℤ, pos, negsuc}
 use Rattle.best_path.specs.Path.{total}
 use Rattle.correlation.specs.Inner as any
-use Rattle.correlation.specs.Whole.{whole, exactly}
-use Rattle.signed_butterflies.specs.Held.{Byte, Near, total_of, wholes_held}
+use Rattle.correlation.specs.Whole.{whole}
+use Rattle.signed_butterflies.specs.Held.{Byte, wholes_held}
 use Rattle.steps.specs.Holding.{Holding}
 use Rattle.trellis.specs.Keep.{Keep}
 

@@ -6,10 +6,7 @@ use Rattle.correlation.specs.Whole.{exactly}
 use Rattle.refusal.specs.First.{FindsBad}
 use Rattle.refusal.specs.Lent.{Lent}
 use Rattle.signed_butterflies.specs.Held.{Byte}
-use Rattle.signed_forward.specs.Inner.{UsedBytes}
 use Rattle.trellis.specs.declared.ConvCode.{ConvCode}
-use Rattle.trellis.specs.declared.KeepPattern.{KeepPattern}
-use Rattle.trellis.specs.Choice.{keep_of}
 use Rattle.trellis.specs.Codeword.{steps_of}
 use Rattle.trellis.specs.Keep.{Keep}
 use Rattle.signed_readings.specs.Said.{is_reading}

@@ -1,6 +1,4 @@
 -- `readings::viterbi_decode_bytes`: the readings are all in the bytes. Assumes nothing.
-use mathlib.Core.Path.{sym}
-use Rattle.f32s.proofs.AllBytes.{length-all}
 use Rattle.readings.proofs.viterbi_decode_bytes.Goals as goal
 
 pub returns : goal.returns

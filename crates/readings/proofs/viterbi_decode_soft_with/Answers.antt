@@ -1,7 +1,5 @@
 -- `readings::viterbi_decode_soft_with`: the readings are all at hand as f32s. Assumes nothing.
 use mathlib.Core.List.{append-nil}
-use mathlib.Core.Path.{sym, ap}
-use lib.ListN.{length}
 use Rattle.f32s.specs.Single.{all_of_bytes}
 use Rattle.readings.proofs.viterbi_decode_soft_with.Goals as goal
 
