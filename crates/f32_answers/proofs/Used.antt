@@ -29,8 +29,10 @@ module _ (all : List Float) (used : ℕ) (enough : used ≤ length all) where
       FindsBad finite (take used all) found
   used_finds None good =
       let sized = length-take-le used all enough in
+      let each : (i : ℕ) → i < length (take used all) → finite (get_or (take used all) i zero32) ≡ true =
+      λ i h. sym (looked-at i (omega (arith, sized)) (good i (omega arith) (omega (arith, sized)))) in
       finds_none finite _
-      (omega (arith, all_good finite zero32 (take used all) (λ i h. sym (looked-at i (omega (arith, sized)) (good i (omega arith) (omega (arith, sized)))))))
+      (omega (arith, all_good finite zero32 (take used all) each))
   used_finds (Some i) (_, h, bad, before) =
       let inside : i < length (take used all) = omega (arith, length-take-le used all enough) in
       finds_bad finite _ i inside (found_here finite (passed i (omega arith) before) zero32 inside (looked-at i h bad) refl)
