@@ -1,16 +1,16 @@
 -- A stream, symbol by symbol: the state after those that were accepted, and their bits at the front of the output. Assumes
 -- nothing.
 use mathlib.Core.List.{List, [], ◌++◌}
-use mathlib.Core.Path.{◌≡◌, refl, sym, ap, subst, ◌∙◌}
-use Prim.Native.Nat.{ℕ, ◌+◌, ◌*◌, ◌/◌, ◌≤◌, ◌<◌}
+use mathlib.Core.Path.{◌≡◌, refl, sym, ap, ap₂, subst, subst₂, ◌∙◌}
+use Prim.Native.Nat.{ℕ, ◌+◌, ◌*◌, ◌/◌, ◌-◌, ◌≤◌, ◌<◌}
 use native.Mathlib.Nat.{le_antisymm}
 use native.Mathlib.Numerals.{add-one}
 use native.Mathlib.Omega.{arith}
 use borrow.Author.Tests.{lt-ltb, le-ltb}
 use lib.Dec.{ltb}
 use lib.Ieee.{Float, nan}
-use lib.ListN.{length, take, get_or, set, length-append}
-use lib.Seq.{length-take-le}
+use lib.ListN.{length, take, drop, get_or, set, length-append, length-drop, get_or-append}
+use lib.Seq.{length-take-le, drop-append_seam, drop-drop, get_or-drop}
 use Rattle.std.specs.Prelude.{Option, Some, None, Result, Ok, Err}
 use Rattle.refusal.specs.Answer.{accepted, refused, Says}
 use Rattle.refusal.specs.Lent.{over, Lent}
@@ -82,7 +82,7 @@ written_put {old} {bits} {i} {written} {count} {answer} {out} so_far inside puts
 
 -- ---- the stream
 
--- The invariant: after i symbols the decoder and the bits at the front of out are those of the accepted ones.
+-- The state after i symbols: the decoder and the bits at the front of out are those of the accepted ones.
 pub record Streaming (soft : List Float) (old : List ℕ) (i : ℕ) (d : StreamingViterbi) (out : List ℕ) (written : ℕ) : Type 0 where
   pub room : length soft / 2 ≤ length old
   pub few : i ≤ length soft / 2
@@ -100,7 +100,7 @@ streaming_starts {soft} {old} begins h =
     }
 
 module _ {soft : List Float} {old : List ℕ} {i : ℕ} {d : StreamingViterbi} {written : ℕ} where
-  streaming_inside :
+  pub streaming_inside :
       {out : List ℕ} → Streaming soft old i d out written → i < length soft / 2 → written < length out
   streaming_inside so_far h = written_inside so_far.ran.bits h so_far.room
 
@@ -120,6 +120,78 @@ module _ {soft : List Float} {old : List ℕ} {i : ℕ} {d : StreamingViterbi} {
             subst (λ (n : ℕ). Ran k5 lag (fresh k5 lag) old (accepted_of soft n) (i + 1) (held next) out.left count)
             (sym (add-one i)) ran;
       }
+
+-- ---- the components that are left, from the next symbol on
+
+pub record Ahead (soft : List Float) (i : ℕ) (left : List Float) (size : ℕ) : Type 0 where
+  pub some : 2 * i ≤ length soft
+  pub rest : left ≡ drop (2 * i) soft
+  pub pairs : size ≡ 2
+
+pub ahead_starts : {soft left : List Float} {size : ℕ} → left ≡ soft → size ≡ 2 → Ahead soft 0 left size
+ahead_starts rest pairs = record { some = omega arith; rest = rest; pairs = pairs }
+
+module _ {soft : List Float} {i : ℕ} {left : List Float} {size : ℕ} (ahead : Ahead soft i left size) where
+  left_long : length left ≡ length soft - 2 * i
+  left_long = ap length ahead.rest ∙ length-drop (2 * i) soft
+
+  pub ahead_ends : length left < size → length soft / 2 ≤ i
+  ahead_ends short = omega (arith, short, left_long, ahead.pairs, ahead.some)
+
+  module _ (symbol behind : List Float) (cut : left ≡ symbol ++ behind) (pair : length symbol ≡ size) where
+    cut_long : length left ≡ 2 + length behind
+    cut_long = ap length cut ∙ length-append symbol behind ∙ ap (λ (n : ℕ). n + length behind) (pair ∙ ahead.pairs)
+
+    pub ahead_inside : i < length soft / 2
+    ahead_inside = omega (arith, cut_long, left_long, ahead.some)
+
+    pub ahead_goes_on : {next : ℕ} → next ≡ size → Ahead soft (i + 1) behind next
+    ahead_goes_on {next} same =
+        let seam : drop 2 left ≡ behind =
+        ap₂ (λ (n : ℕ) (l : List Float). drop n l) (sym (pair ∙ ahead.pairs)) cut ∙ drop-append_seam symbol behind in
+        let place : 2 * i + 2 ≡ 2 * (i + 1) = omega arith in
+        record {
+          some = omega (arith, cut_long, left_long, ahead.some);
+          rest =
+              sym seam ∙ ap (λ (l : List Float). drop 2 l) ahead.rest ∙ drop-drop 2 (2 * i) soft
+              ∙ ap (λ (n : ℕ). drop n soft) place;
+          pairs = same ∙ ahead.pairs;
+        }
+
+    -- a component of the symbol that is cut off is that of its number
+    component_is : (k : ℕ) {n : ℕ} → k < 2 → 2 * i + k ≡ n → get_or symbol k nan ≡ get_or soft n nan
+    component_is k h e =
+        sym (get_or-append symbol behind nan k (omega (arith, pair, ahead.pairs)))
+        ∙ ap (λ (l : List Float). get_or l k nan) (sym cut ∙ ahead.rest)
+        ∙ get_or-drop (2 * i) soft k nan
+        ∙ ap (λ (n : ℕ). get_or soft n nan) e
+
+-- The invariant: the first i symbols are fed, and the others are ahead.
+pub record Turning
+    (soft : List Float) (old : List ℕ) (i : ℕ) (d : StreamingViterbi) (out : List ℕ) (written : ℕ) (left : List Float)
+    (size : ℕ) : Type 0 where
+  pub fed : Streaming soft old i d out written
+  pub ahead : Ahead soft i left size
+
+-- one turn: a symbol is cut off and fed
+pub symbol_fed :
+    {soft : List Float} {old : List ℕ} {i n : ℕ} {d next : StreamingViterbi} {left : List Float} (symbol behind : List Float)
+    {size same written count : ℕ} {answer : Result (Option ℕ) Refusal} {out : Lent ℕ} →
+    Turning soft old i d out.given written left size → left ≡ symbol ++ behind → length symbol ≡ size → same ≡ size →
+    Feeds (Emits answer) (held d) (held next) (get_or symbol 0 nan) (get_or symbol 1 nan) →
+    PutsBits answer written count out → n ≡ i + 1 → Turning soft old n next out.left count behind same
+symbol_fed {soft} {i = i} {d = d} {next = next} symbol behind {answer = answer} so_far cut pair same feeds puts e =
+    let ahead = so_far.ahead in
+    let re : get_or symbol 0 nan ≡ get_or soft (2 * i) nan =
+    component_is ahead symbol behind cut pair 0 (omega arith) (omega arith) in
+    let im : get_or symbol 1 nan ≡ get_or soft (2 * i + 1) nan =
+    component_is ahead symbol behind cut pair 1 (omega arith) refl in
+    let feeds_own = subst₂ (λ (x y : Float). Feeds (Emits answer) (held d) (held next) x y) re im feeds in
+    rw e
+    (record {
+      fed = streaming_goes_on so_far.fed (ahead_inside ahead symbol behind cut pair) feeds_own puts;
+      ahead = ahead_goes_on ahead symbol behind cut pair same;
+    })
 
 -- ---- the answers
 

@@ -50,9 +50,8 @@ fn stream(soft: &[f32], out: &mut [u8]) -> Result<usize, Refusal>
     }
     let mut d = StreamingViterbi::new();
     let mut written = 0;
-    for i in 0..count {
-        let at = 2 * i;
-        let fed = d.feed_symbol(soft[at], soft[at + 1]);
+    for symbol in soft.chunks_exact(2) {
+        let fed = d.feed_symbol(symbol[0], symbol[1]);
         let answer = fed.answer;
         d = fed.coder;
         written = put_bit(answer, written, out);

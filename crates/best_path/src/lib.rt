@@ -27,6 +27,7 @@ pub fn trace(
 {
     let states = 2 * half;
     let mut s = last;
+    // By number: it is a place in out too, which is shorter than the steps where there is a tail.
     for i in (0..steps).rev() {
         if i < info {
             out[i] = input_into(half, s);

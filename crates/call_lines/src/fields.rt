@@ -95,6 +95,7 @@ fn repeat(into: &mut [u8], start: usize, end: usize, count: usize) -> Option<usi
     if start == end || last < end || LONG < last {
         return None;
     }
+    // By number: each byte is read from what an earlier turn wrote, which a copy of a range does not do.
     for i in end..last.min(into.len()) {
         into[i] = into[i - (end - start)];
     }

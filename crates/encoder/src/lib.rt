@@ -49,6 +49,7 @@ fn encode(chosen: Selected, bits: &[u8], steps: usize, out: &mut [u8])
     let mut s = 0;
     let mut column = 0;
     let mut at = 0;
+    // By number: the steps go on past the bits, through the tail.
     for t in 0..steps {
         let b = input_at(bits, t);
         let pair = trellis::branch_bits(code, s, b);

@@ -24,13 +24,7 @@ pub fn first_bad(readings: Readings, used: usize) -> Option<usize>
     requires { used ≤ length (values_of readings) }
     ensures { FindsBad finite (take used (values_of readings.entry)) result }
 {
-    for i in 0..used {
-        let good = readings.is_finite_at(i);
-        if !good {
-            return Some(i);
-        }
-    }
-    None
+    (0..used).find(|i| !readings.is_finite_at(*i))
 }
 
 // The place of refusal 7: the index of the first component that is NaN or beyond ±1,024, if there is one.

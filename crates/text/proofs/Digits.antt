@@ -1,9 +1,9 @@
--- A number's digits: eight hex digits, found the last first and put from the end of an array to its front, and decimal
--- ones, the last behind those before it. Assumes nothing.
-use Rattle.std.proofs.Common.{◌≡◌, ℕ, zero, suc, ◌/◌, ◌%◌, ◌^◌, ◌≤◌, ◌<◌, List, [], ◌∷◌, ◌++◌, length, drop, set}
-use Rattle.std.proofs.Common.{Bool, true, false, cond, refl, sym, ap, ◌∙◌, length-set, length-append, drop-cons, arith}
+-- A number's digits: eight hex digits, the first one first, and decimal ones, the last behind those before it. Assumes
+-- nothing.
+use Rattle.std.proofs.Common.{◌≡◌, ℕ, zero, suc, ◌+◌, ◌/◌, ◌%◌, ◌^◌, ◌*◌, ◌-◌, ◌≤◌, ◌<◌, List, [], ◌∷◌, ◌++◌, length}
+use Rattle.std.proofs.Common.{Bool, true, false, cond, refl, sym, ap, ◌∙◌, length-append, append-nil, append_assoc, pow-add, arith}
 use Rattle.std.proofs.Common.{lit<, lit≤}
-use Rattle.std.proofs.Math.Seq.{drop-set-lt, get_or-set_same, append_snoc}
+use Rattle.std.proofs.Math.Nat.{div-div-eq-div-mul}
 use native.Mathlib.Decide.{dec_lt}
 use native.Mathlib.Nat.{pow-suc, div-lt_iff_lt-mul}
 use borrow.Author.Tests.{lt-ltb, le-ltb}
@@ -12,41 +12,66 @@ use Rattle.text.specs.Text.{digit, hex_digits, decimal_digits, decimal}
 
 -- ---- eight hex digits
 
-drop-set : (l : List ℕ) (k d : ℕ) → k < length l → drop k (set l k d) ≡ d ∷ drop (suc k) l
-drop-set l k d h =
-    let inside : k < length (set l k d) = omega (arith, length-set l k d) in
-    drop-cons (set l k d) k 0 inside ∙ rw (get_or-set_same l k d 0 h, drop-set-lt (suc k) l k d (omega arith))
+-- the invariant: behind what was written before stand the first digits, and as many as `place` are still to be put
+pub record HexPut (n : ℕ) (old : List ℕ) (place : ℕ) (now : List ℕ) : Type 0 where
+  pub turns : place ≤ 8
+  pub puts : now ≡ old ++ hex_digits (8 - place) (n / 2 ^ (4 * place))
 
--- the digits before the last, and the last put in front of those that stand already
-one_put :
-    (front digits : List ℕ) (k d : ℕ) → k < length digits →
-    (front ++ (d ∷ [])) ++ drop (suc k) digits ≡ front ++ drop k (set digits k d)
-one_put front digits k d h =
-    append_snoc front d (drop (suc k) digits) ∙ ap (λ (l : List ℕ). front ++ l) (sym (drop-set digits k d h))
+length-hex : (k n : ℕ) → length (hex_digits k n) ≡ k
+unfolding hex_digits
+length-hex zero n = refl
+length-hex (suc k) n =
+    length-append (hex_digits k (n / 16)) (digit (n % 16) ∷ [])
+    ∙ ap (λ (l : ℕ). l + 1) (length-hex k (n / 16))
+    ∙ omega arith
 
--- the invariant: the first i digits are still to be put, the others stand at their places
-pub record HexLeft (n : ℕ) (digits : List ℕ) (rest i : ℕ) : Type 0 where
-  pub turns : i ≤ 8
-  pub size : length digits ≡ 8
-  pub whole : hex_digits 8 n ≡ hex_digits i rest ++ drop i digits
+pub hex_starts : {n : ℕ} {old : List ℕ} → HexPut n old 8 old
+unfolding hex_digits
+hex_starts {n} {old} = record { turns = omega arith; puts = sym (append-nil old) }
 
-module _ {n : ℕ} {digits : List ℕ} {rest i : ℕ} (so_far : HexLeft n digits rest i) where
+-- the next digit, behind those before it
+one_more :
+    (n k : ℕ) → k < 8 →
+    hex_digits (8 - suc k) (n / 2 ^ (4 * suc k)) ++ (digit (n / 2 ^ (4 * k) % 16) ∷ []) ≡ hex_digits (8 - k) (n / 2 ^ (4 * k))
+unfolding hex_digits
+one_more n k h =
+    let four : 4 * suc k ≡ 4 * k + 4 = omega arith in
+    let sixteen : 2 ^ (4 * suc k) ≡ 2 ^ (4 * k) * 16 = ap (λ (e : ℕ). 2 ^ e) four ∙ pow-add 2 (4 * k) 4 in
+    let behind : n / 2 ^ (4 * suc k) ≡ n / 2 ^ (4 * k) / 16 =
+    ap (λ (d : ℕ). n / d) sixteen ∙ sym (div-div-eq-div-mul n (2 ^ (4 * k)) 16) in
+    let left : 8 - k ≡ suc (8 - suc k) = omega arith in
+    rw (left, behind)
+
+module _ {n : ℕ} {old now : List ℕ} {place : ℕ} (so_far : HexPut n old place now) (some : 0 < place) where
+  pub hex_room : {room : ℕ} → length old + length (hex_digits 8 n) ≤ room → length now < room
+  hex_room {room} h =
+      let digits = hex_digits (8 - place) (n / 2 ^ (4 * place)) in
+      omega (
+        arith,
+        h,
+        some,
+        so_far.turns,
+        length-hex 8 n,
+        length-hex (8 - place) (n / 2 ^ (4 * place)),
+        ap length so_far.puts,
+        length-append old digits,
+      )
+
   pub hex_goes_on :
-      {k d : ℕ} → i ≡ suc k → d ≡ digit (rest % 16) → HexLeft n (set digits k d) (rest / 16) k
-  unfolding hex_digits
-  hex_goes_on {k} {d} next e =
+      {k d : ℕ} {next : List ℕ} → place ≡ suc k → d ≡ digit (n / 2 ^ (4 * k) % 16) → next ≡ now ++ (d ∷ []) →
+      HexPut n old k next
+  hex_goes_on {k} {d} {next} turn e puts =
+      let few : k < 8 = omega (arith, so_far.turns) in
+      let before : now ≡ old ++ hex_digits (8 - suc k) (n / 2 ^ (4 * suc k)) =
+      so_far.puts ∙ ap (λ (p : ℕ). old ++ hex_digits (8 - p) (n / 2 ^ (4 * p))) turn in
       record {
-        turns = omega (arith, so_far.turns, next);
-        size = length-set digits k d ∙ so_far.size;
-        whole =
-            so_far.whole
-            ∙ rw (next, sym e)
-            (one_put (hex_digits k (rest / 16)) digits k d (omega (arith, so_far.turns, so_far.size, next)));
+        turns = omega arith;
+        puts =
+            puts
+            ∙ rw (before, e)
+            (append_assoc old (hex_digits (8 - suc k) (n / 2 ^ (4 * suc k))) (digit (n / 2 ^ (4 * k) % 16) ∷ [])
+            ∙ ap (λ (l : List ℕ). old ++ l) (one_more n k few));
       }
-
-  pub hex_ends : i ≡ 0 → digits ≡ hex_digits 8 n
-  unfolding hex_digits
-  hex_ends e = sym (so_far.whole ∙ rw e)
 
 -- ---- a decimal number
 
@@ -85,8 +110,7 @@ decimal_more n more h =
 -- ---- how many digits
 
 pub eight : (n : ℕ) → 8 ≡ length (hex_digits 8 n)
-unfolding hex_digits
-eight n = refl
+eight n = sym (length-hex 8 n)
 
 length-cond : (b : Bool) (x y : List ℕ) (k : ℕ) → length x ≤ k → length y ≤ k → length (cond b x y) ≤ k
 length-cond true x y k h g = h

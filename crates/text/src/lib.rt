@@ -83,13 +83,9 @@ impl<const ROOM: usize> Line<ROOM> {
         requires { length self.old + length (hex_digits 8 n) ≤ ROOM }
         ensures { self.new ≡ self.old ++ hex_digits 8 n }
     {
-        let mut digits = [0; 8];
-        let mut rest = n;
-        for i in (0..8).rev() {
-            digits[i] = digit(rest % 16);
-            rest /= 16;
+        for place in (0..8u32).rev() {
+            self.put_byte(digit((n >> (4 * place)) % 16));
         }
-        self.put(&digits);
     }
 
     // A number in decimal.

@@ -1,10 +1,8 @@
--- `bench_calls::stream`: refused for a short output, or the laws of a turn at what is known there. Assumes nothing.
-use Prim.Native.Nat.{◌-◌}
-use Rattle.bench_calls.proofs.Streamed.{Streaming}
+-- `bench_calls::stream`: the symbols so far are fed, and the others are ahead. Assumes nothing.
+use lib.ListN.{length}
+use Rattle.bench_calls.proofs.Streamed.{Turning}
 use Rattle.bench_calls.proofs.stream.Given as goal
 
-abbrev pub invariant-loop-i : goal.invariant-loop-i
-invariant-loop-i l = Streaming l.soft l.initial.out l.i l.d l.out l.written
-
-abbrev pub decreases-loop-i : goal.decreases-loop-i
-decreases-loop-i l = l.count - l.i
+abbrev pub invariant-loop-symbol : goal.invariant-loop-symbol
+invariant-loop-symbol l =
+    Turning l.soft l.initial.out (length l.yielded) l.d l.out l.written l.symbol-iterator.rest.now l.symbol-iterator.size

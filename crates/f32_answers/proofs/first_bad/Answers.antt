@@ -1,28 +1,21 @@
--- `f32_answers::first_bad`: the laws of a turn at what is known there. Assumes nothing.
-use native.Mathlib.Omega.{arith}
-use borrow.Author.Rules.{rules}
-use lib.Seq.{length-take-le}
-use Rattle.f32s.specs.Single.{finite}
+-- `f32_answers::first_bad`: a search from the front. Assumes nothing.
+use Rattle.std.proofs.Common.{◌≡◌, true, false, get_or, rules, arith}
+use Rattle.std.proofs.lemmas.Iterator.{serves_from_Range, first_from_Range}
+use Rattle.f32s.specs.Readings.{values_of}
+use Rattle.f32s.specs.Single.{zero32, finite}
 use Rattle.f32s.proofs.AllBytes.{length-values}
-use Rattle.refusal.proofs.FirstBad.{sought_starts, none_found, finds_none}
-use Rattle.f32_answers.proofs.Used.{used_found, used_goes_on}
+use Rattle.f32_answers.proofs.Used.{used_finds}
 use Rattle.f32_answers.proofs.first_bad.Goals as goal
 
-pub loop-i-init : goal.loop-i-init
-loop-i-init c = sought_starts finite
-
-pub is_finite_at-good-requires : goal.is_finite_at-good-requires
-is_finite_at-good-requires c =
-    omega (arith, c.loop-i-test.true, c.requires, length-values c.args.readings.floats.now c.args.readings.bytes.now)
-
-pub loop-i-preserved : goal.loop-i-preserved
-loop-i-preserved c = used_goes_on _ _ _ _ c.loop-i.invariant (search rules) (search rules) c.is_finite_at-good.ensures (search rules)
+pub find-requires-clause-callable : goal.find-requires-clause-callable
+find-requires-clause-callable c =
+    let sized = length-values c.args.readings.floats.now c.args.readings.bytes.now in
+    serves_from_Range (λ x q r. search rules) (λ x low high y is _ _ _ _ _ _ _. omega (arith, is, high, c.requires, sized))
 
 pub returns : goal.returns
 returns c =
-    let sized = length-take-le _ _ c.requires in
-    finds_none finite _ (omega (arith, sized, none_found finite c.loop-i.invariant (omega (arith, sized))))
-
-pub returns-then-not-good : goal.returns-then-not-good
-returns-then-not-good c =
-    used_found _ _ _ _ c.loop-i.invariant (search rules) (search rules) c.is_finite_at-good.ensures (search rules)
+    used_finds _ _ c.requires _
+    (first_from_Range _ _ _ _
+    (λ i. finite (get_or (values_of c.args.readings) i zero32) ≡ false)
+    (λ i. finite (get_or (values_of c.args.readings) i zero32) ≡ true) c.find.ensures.ran
+    (λ x q r. search rules) (λ x q r. search rules))

@@ -1,6 +1,6 @@
--- `text::Line::put_hex`: the digits that were put stand at their places. Assumes nothing.
-use Rattle.text.proofs.Digits.{HexLeft}
+-- `text::Line::put_hex`: the digits so far stand behind what was written before. Assumes nothing.
+use Rattle.text.proofs.Digits.{HexPut}
 use Rattle.text.proofs.Line.put_hex.Given as goal
 
-abbrev pub invariant-loop-i : goal.invariant-loop-i
-invariant-loop-i g l = HexLeft l.n l.digits l.rest l.i
+abbrev pub invariant-loop-place : goal.invariant-loop-place
+invariant-loop-place g l = HexPut l.n l.fn.self l.place l.self
