@@ -1,51 +1,39 @@
--- Where a decoding's symbols are: each is read from the components at hand, or where there are none, from its two hard bits; it is
--- that of the one list of components which the definitions are about. Assumes nothing.
-use mathlib.Core.List.{List, [], ◌∷◌, append-nil}
-use mathlib.Core.Path.{◌≡◌, refl, sym}
-use Prim.Native.Nat.{ℕ, ◌+◌, ◌*◌, ◌≤◌, ◌<◌}
+-- A decoding's symbols as the one list of components which the definitions are about: how many are there, and that each is that
+-- list's where it lies. Assumes nothing.
+use mathlib.Core.List.{List, [], append-nil}
+use mathlib.Core.Path.{◌≡◌}
+use Prim.Native.Nat.{ℕ, ◌+◌, ◌*◌, ◌≤◌}
 use native.Mathlib.Omega.{arith}
-use lib.Ieee.{Float, nan}
-use lib.ListN.{length, get_or-append}
+use lib.Ieee.{Float}
+use lib.ListN.{length}
 use Rattle.refusal.specs.Limits.{most}
-use Rattle.symbols.specs.Inner.{components, Symbols, symbol_at}
+use Rattle.symbols.specs.Inner.{components, Counted, symbol_at}
 use Rattle.symbols.specs.Said.{phasors_of}
-use Rattle.symbols.proofs.Hard.{phasor_at, pair_symbol}
+use Rattle.symbols.proofs.Hard.{length-phasors, phasor_at, pair_symbol}
 
--- ---- a caller has only the one or the other
+-- ---- components at hand
 
 pub no_bits : (soft : List Float) → components soft [] ≡ soft
 unfolding phasors_of
 no_bits soft = append-nil soft
 
-module _ {count : ℕ} (few : count ≤ most) where
-  pub all_at_hand : {soft : List Float} → 2 * count ≤ length soft → Symbols soft [] count
-  all_at_hand h = record { few = few; at_hand = λ some. h; in_bits = λ none. omega arith }
+pub soft_counted : (soft : List Float) {count : ℕ} → count ≤ most → 2 * count ≤ length soft → Counted (components soft []) count
+soft_counted soft few h = rw (no_bits soft) (record { few = few; all_there = h })
 
-  pub all_in_bits : {bits : List ℕ} → 2 * count ≤ length bits → Symbols [] bits count
-  all_in_bits h = record { few = few; at_hand = λ some. absurd (some refl); in_bits = λ none. h }
+pub soft_there : (soft : List Float) {count : ℕ} → Counted (components soft []) count → 2 * count ≤ length soft
+soft_there soft counted = rw (no_bits soft) at counted.all_there
 
--- ---- a symbol
+pub soft_symbol : (soft : List Float) (t : ℕ) → symbol_at soft t ≡ symbol_at (components soft []) t
+soft_symbol soft t = rw (no_bits soft)
 
-pub symbol_there : {soft : List Float} {bits : List ℕ} {count t : ℕ} → Symbols soft bits count → t < count → Symbols soft bits (t + 1)
-symbol_there there h =
-    record {
-      few = omega (arith, there.few);
-      at_hand = λ some. omega (arith, there.at_hand some);
-      in_bits = λ none. omega (arith, there.in_bits none);
-    }
+-- ---- hard bits
 
-nothing : {A : Type 0} (l : List A) → length l ≡ 0 → l ≡ []
-nothing [] e = refl
-nothing (a ∷ l) e = absurd (omega arith)
+pub hard_counted : (bits : List ℕ) {count : ℕ} → count ≤ most → 2 * count ≤ length bits → Counted (components [] bits) count
+hard_counted bits few h = record { few = few; all_there = omega (arith, length-phasors bits, h) }
 
-module _ {soft : List Float} {bits : List ℕ} (t : ℕ) (there : Symbols soft bits (t + 1)) where
-  -- its two components
-  pub symbol_at-hand : (length soft ≡ 0 → ⊥) → symbol_at soft t ≡ symbol_at (components soft bits) t
-  symbol_at-hand some =
-      let h = there.at_hand some in
-      let same = get_or-append soft (phasors_of bits) nan in
-      sym (rw (same (2 * t) (omega arith), same (2 * t + 1) (omega arith)))
+pub hard_there : (bits : List ℕ) {count : ℕ} → Counted (components [] bits) count → 2 * count ≤ length bits
+hard_there bits counted = omega (arith, length-phasors bits, counted.all_there)
 
-  -- its two bits' phasor
-  pub symbol_in_bits : length soft ≡ 0 → phasor_at bits t ≡ symbol_at (components soft bits) t
-  symbol_in_bits none = rw (nothing soft none) (pair_symbol bits t (there.in_bits none))
+pub hard_symbol :
+    (bits : List ℕ) (t : ℕ) → Counted (components [] bits) (t + 1) → phasor_at bits t ≡ symbol_at (components [] bits) t
+hard_symbol bits t counted = pair_symbol bits t (hard_there bits counted)

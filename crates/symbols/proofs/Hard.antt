@@ -48,7 +48,7 @@ pair_symbol (b0 ∷ b1 ∷ bits) (suc i) h =
 
 -- ---- the soft form on them
 
-length-phasors : (bits : List ℕ) → length (phasors_of bits) ≡ 2 * symbols_in bits
+pub length-phasors : (bits : List ℕ) → length (phasors_of bits) ≡ 2 * symbols_in bits
 unfolding phasors_of
 length-phasors [] = refl
 length-phasors (b ∷ []) = refl

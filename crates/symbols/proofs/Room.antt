@@ -14,7 +14,7 @@ use Rattle.refusal.specs.Answer.{Said, done, refused, refuse_when, number_of, pl
 use Rattle.refusal.specs.Limits.{most}
 use Rattle.refusal.specs.Numbers.{too_many, short_output, short_scratch}
 use Rattle.trellis.specs.Choice.{k5}
-use Rattle.symbols.specs.Inner.{Symbols, Decodable}
+use Rattle.symbols.specs.Inner.{Counted, Decodable}
 use Rattle.symbols.specs.Said.{room_for}
 use Rattle.symbols.proofs.Selected.{k5_halved}
 
@@ -66,8 +66,8 @@ module _ (count room scratch : ℕ) where
     room_few = ltb-false most count passed.few
 
     pub room_decodable :
-        {soft : List Float} {bits out scratch' : List ℕ} → Symbols soft bits count → room ≡ length out →
-        scratch ≡ length scratch' → Decodable k5 soft bits count out scratch'
+        {soft : List Float} {out scratch' : List ℕ} → Counted soft count → room ≡ length out →
+        scratch ≡ length scratch' → Decodable k5 soft count out scratch'
     room_decodable there e f =
         record {
           ready = record {

@@ -19,7 +19,7 @@ use Rattle.butterflies.specs.Smallest.{mark, smallest}
 use Rattle.symbols.specs.Costs.{costs, started}
 use Rattle.symbols.specs.Decode.{symbol_costs, first_least, mets, froms, filled_rows}
 use Rattle.symbols.specs.Inner.{half, new_mets, new_froms, Selects}
-use Rattle.symbols.specs.Inner.{components, symbol_at, Runnable, Runs}
+use Rattle.symbols.specs.Inner.{symbol_at, Runnable, Runs}
 use Rattle.symbols.specs.declared.phasors.Phasor.{Phasor}
 
 module _ (code : ConvCode) (some : 0 < code.width) (soft : List Float) where
@@ -76,50 +76,47 @@ module _ {code : ConvCode} (shape : Halved code half) (soft : List Float) where
 -- The invariant: after t symbols the metrics are the definition's, and the survivors of t symbols stand over the front of the
 -- rows.
 pub record Forwarded
-    (code : ConvCode) (soft : List Float) (bits : List ℕ) (count : ℕ) (old c0 c1 : List ℕ) (rows : List ℕ) (pm : List Float)
+    (code : ConvCode) (soft : List Float) (count : ℕ) (old c0 c1 : List ℕ) (rows : List ℕ) (pm : List Float)
     (to t : ℕ) : Type 0 where
-  pub ready : Runnable code soft bits count old
+  pub ready : Runnable code soft count old
   pub crossed : Crossed code half c0 c1
   pub turns : t ≤ count
   pub place : to ≡ t * (2 * half)
-  pub metrics : pm ≡ mets code (components soft bits) t
-  pub survivors : rows ≡ filled_rows code (components soft bits) t ++ drop (t * (2 * half)) old
+  pub metrics : pm ≡ mets code soft t
+  pub survivors : rows ≡ filled_rows code soft t ++ drop (t * (2 * half)) old
 
 pub forwarded_starts :
-    {code : ConvCode} {soft : List Float} {bits : List ℕ} {count : ℕ} {old c0 c1 : List ℕ} →
-    Runnable code soft bits count old → Crossed code half c0 c1 →
-    Forwarded code soft bits count old c0 c1 old (set (replicate (2 * half) mark) 0 zero32) 0 0
-forwarded_starts {code} {soft} {bits} {count} {old} ready crossed =
+    {code : ConvCode} {soft : List Float} {count : ℕ} {old c0 c1 : List ℕ} →
+    Runnable code soft count old → Crossed code half c0 c1 →
+    Forwarded code soft count old c0 c1 old (set (replicate (2 * half) mark) 0 zero32) 0 0
+forwarded_starts {code} {soft} {count} {old} ready crossed =
     record {
       ready = ready;
       crossed = crossed;
       turns = omega arith;
       place = omega arith;
-      metrics = mets_start ready.shape (components soft bits);
-      survivors = rows_start (filled_by ready.shape (components soft bits)) old;
+      metrics = mets_start ready.shape soft;
+      survivors = rows_start (filled_by ready.shape soft) old;
     }
 
 module _
-    {code : ConvCode} {soft : List Float} {bits : List ℕ} {count : ℕ} {old c0 c1 : List ℕ} {rows : List ℕ} {pm : List Float}
-    {to t : ℕ} (now : Forwarded code soft bits count old c0 c1 rows pm to t) where
+    {code : ConvCode} {soft : List Float} {count : ℕ} {old c0 c1 : List ℕ} {rows : List ℕ} {pm : List Float}
+    {to t : ℕ} (now : Forwarded code soft count old c0 c1 rows pm to t) where
   abbrev shape : Halved code half
   shape = now.ready.shape
-
-  abbrev all : List Float
-  all = components soft bits
 
   -- the rows are as long as they were
   pub rows_sized : length rows ≡ length old
   rows_sized =
-      let front = length-rows (filled_by shape all) t in
+      let front = length-rows (filled_by shape soft) t in
       ap length now.survivors
       ∙ simp (length-append, length-drop) (omega (arith, front, now.turns, now.ready.room))
 
   pub forwarded_ends :
-      count ≤ t → {r : ℕ} → r ≡ first_least pm (2 * half) → Runs code all count r (record { given = old; left = rows })
+      count ≤ t → {r : ℕ} → r ≡ first_least pm (2 * half) → Runs code soft count r (record { given = old; left = rows })
   forwarded_ends past {r} found =
       let end : t ≡ count = omega (arith, now.turns) in
-      let two = two_halves shape all in
+      let two = two_halves shape soft in
       record {
         last = found ∙ ap₂ first_least (rw end at now.metrics) (sym two);
         survivors = rw (two) (rw end at now.survivors);
@@ -131,23 +128,23 @@ module _
     row_within = omega (arith, now.place, rows_sized, now.ready.room)
 
     pub forwarded_goes_on :
-        {symbol : Phasor} → symbol ≡ symbol_at all t →
+        {symbol : Phasor} → symbol ≡ symbol_at soft t →
         {next next' : List Float} {part : List ℕ} {to' : ℕ} →
         Selects code pm symbol.re symbol.im (record { given = next; left = next' })
         (record { given = take (length rows - to) (drop to rows); left = part }) →
         to' ≡ to + 2 * half →
-        Forwarded code soft bits count old c0 c1 (take to rows ++ (part ++ drop (length rows - to) (drop to rows))) next' to' (t + 1)
+        Forwarded code soft count old c0 c1 (take to rows ++ (part ++ drop (length rows - to) (drop to rows))) next' to' (t + 1)
     forwarded_goes_on read {next} {next'} {part} selects place' =
         let some = shape.held.some in
         let rest = take (length rows - to) (drop to rows) in
-        let froms_row = new_froms_lem code some all t read now.metrics in
-        let row : part ≡ froms code all t ++ drop (2 * half) rest =
-        selects.froms ∙ ap₂ (λ (l : List ℕ) (n : ℕ). l ++ drop n rest) froms_row (two_halves shape all) in
+        let froms_row = new_froms_lem code some soft t read now.metrics in
+        let row : part ≡ froms code soft t ++ drop (2 * half) rest =
+        selects.froms ∙ ap₂ (λ (l : List ℕ) (n : ℕ). l ++ drop n rest) froms_row (two_halves shape soft) in
         record {
           ready = now.ready;
           crossed = now.crossed;
           turns = omega arith;
           place = omega (arith, place', now.place);
-          metrics = selects.mets ∙ new_mets_lem code some all t read now.metrics;
-          survivors = rows_put (filled_by shape all) old rows part to t now.survivors now.place row;
+          metrics = selects.mets ∙ new_mets_lem code some soft t read now.metrics;
+          survivors = rows_put (filled_by shape soft) old rows part to t now.survivors now.place row;
         }

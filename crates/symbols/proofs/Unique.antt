@@ -34,7 +34,7 @@ pub first_least-once : (κs pm : _) → Once (λ (r : ℕ). first_least.Post κs
 first_least-once κs pm r r' p q = p ∙ sym q
 
 pub runs_once :
-    (κs code soft bits count rows : _) →
+    (κs code symbols count rows : _) →
     OnceLeft (λ r left.
-    forward.Post κs (code, (soft, (bits, (count, (rows, tt))))) r (code, (soft, (bits, (count, (left, tt))))))
-runs_once κs code soft bits count rows r r' left left' p q = (p.last ∙ sym q.last, p.survivors ∙ sym q.survivors)
+    forward.Post κs (code, (symbols, (count, (rows, tt)))) r (code, (symbols, (count, (left, tt)))))
+runs_once κs code symbols count rows r r' left left' p q = (p.last ∙ sym q.last, p.survivors ∙ sym q.survivors)

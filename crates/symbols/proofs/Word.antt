@@ -16,23 +16,20 @@ use Rattle.trellis.specs.declared.ConvCode.{ConvCode}
 use Rattle.trellis.specs.Inner.{Halved}
 use Rattle.butterflies.specs.Smallest.{smallest}
 use Rattle.symbols.specs.Decode.{mets, froms, word}
-use Rattle.symbols.specs.Inner.{half, components, Runs, Decodable, Finds}
+use Rattle.symbols.specs.Inner.{half, Runs, Decodable, Finds}
 use Rattle.symbols.proofs.Least.{least_below}
 use Rattle.symbols.proofs.Steps.{two_halves, filled_by}
 
 -- what a decoding is given, and what its symbols leave
 module _
-    {code : ConvCode} {soft : List Float} {bits : List ℕ} {count : ℕ} {out scratch : List ℕ}
-    (ready : Decodable code soft bits count out scratch) {last : ℕ} {left : List ℕ}
-    (ran : Runs code (components soft bits) count last (record { given = scratch; left = left })) where
-  abbrev all : List Float
-  all = components soft bits
-
+    {code : ConvCode} {soft : List Float} {count : ℕ} {out scratch : List ℕ}
+    (ready : Decodable code soft count out scratch) {last : ℕ} {left : List ℕ}
+    (ran : Runs code soft count last (record { given = scratch; left = left })) where
   abbrev shape : Halved code half
   shape = ready.ready.shape
 
-  abbrev rows : StateRows (2 * half) (froms code all)
-  rows = filled_by shape all
+  abbrev rows : StateRows (2 * half) (froms code soft)
+  rows = filled_by shape soft
 
   -- the way back as the rows have it
   abbrev way : List ℕ
@@ -40,24 +37,24 @@ module _
 
   is_state : last < 2 * half
   is_state =
-      let two = two_halves shape all in
-      omega (arith, ran.last, least_below (mets code all count) (2 ^ code.width) (2 * half) (lit< tt) (omega (arith, two)))
+      let two = two_halves shape soft in
+      omega (arith, ran.last, least_below (mets code soft count) (2 ^ code.width) (2 * half) (lit< tt) (omega (arith, two)))
 
   pub way_walkable : Traceable code half left count last count (length out)
   way_walkable =
       left_traceable rows code half count left _ refl shape.halved shape.few ran.survivors last count (length out)
       is_state (omega arith) ready.room
 
-  spelled : take count way ≡ word code all count
+  spelled : take count way ≡ word code soft count
   unfolding word
   spelled =
       take_all count way (omega (arith, length-traced wholes code (row_of (2 * half) left) count last))
       ∙ left_way_back rows code half count left _ refl shape.halved shape.few ran.survivors smallest last
-      ∙ ap (traced smallest code (froms code all) count) ran.last
+      ∙ ap (traced smallest code (froms code soft) count) ran.last
 
   -- so where the way back is written to the output, word and survivors are found
   pub way_finds :
       {new : List ℕ} → new ≡ take count (traced wholes code (row_of (2 * half) left) count last) ++ drop count out →
-      Finds code all count (record { given = out; left = new }) (record { given = scratch; left = left })
+      Finds code soft count (record { given = out; left = new }) (record { given = scratch; left = left })
   way_finds e =
       record { output = e ∙ ap (λ (l : List ℕ). l ++ drop count out) spelled; survivors = ran.survivors }

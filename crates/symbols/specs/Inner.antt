@@ -1,13 +1,12 @@
 -- What the inner functions ask and ensure. Definitions only.
-use Rattle.std.specs.Prelude.{true, false, cond, List, ◌++◌, map, ◌≡◌, ℕ, zero, suc, ◌+◌, ◌*◌, ◌^◌, ◌≤◌}
-use Rattle.std.specs.Prelude.{◌<◌, eqb, ltb, Float, length, get_or, drop}
+use Rattle.std.specs.Prelude.{true, false, cond, List, [], ◌++◌, map, ◌≡◌, ℕ, zero, suc, ◌+◌, ◌*◌, ◌^◌, ◌≤◌}
+use Rattle.std.specs.Prelude.{◌<◌, eqb, Float, length, get_or, drop}
 use Rattle.std.specs.Float.{nan, inf}
 use Rattle.std.specs.Float.Ieee.{lt}
 use Rattle.best_path.specs.Step.{Cell, step}
 use Rattle.refusal.specs.Lent.{Lent}
 use Rattle.refusal.specs.Limits.{most}
 use Rattle.trellis.specs.declared.ConvCode.{ConvCode}
-use Rattle.trellis.specs.Choice.{k5}
 use Rattle.trellis.specs.Inner.{Halved, Crossed}
 use Rattle.butterflies.specs.Smallest.{mark, smallest}
 use Rattle.symbols.specs.Costs.{cost, costs, phasor_of}
@@ -16,6 +15,8 @@ use Rattle.symbols.specs.Said.{phasors_of}
 use Rattle.symbols.specs.declared.phasors.Phasor.{Phasor}
 use Rattle.symbols.specs.declared.phasors.Prices.{Prices}
 use Rattle.symbols.specs.declared.forward_pass.Placed.{Placed}
+use Rattle.symbols.specs.declared.forward_pass.Symbols.{Symbols}
+use Rattle.symbols.specs.declared.forward_pass.Symbols.TheVariants.{Soft, Hard}
 
 -- the step is for any code of 16 states, and this is half of them
 abbrev pub half : ℕ
@@ -82,16 +83,19 @@ pub record LeastIn (pm : List Float) (lo n : ℕ) (r : Placed) : Type 0 where
 
 -- ---- where the symbols are
 
--- The components of a decoding: those at hand, and behind them the phasors of hard bits. A caller has only the one or
--- the other.
+-- The components of a decoding: those at hand, and behind them the phasors of hard bits.
 abbrev pub components : List Float → List ℕ → List Float
 components soft bits = soft ++ phasors_of bits
 
--- so many symbols, within the limit: where there are components at hand, all of them there, else all in the hard bits
-pub record Symbols (soft : List Float) (bits : List ℕ) (count : ℕ) : Type 0 where
+-- those of symbols, which are only the one or the other
+abbrev pub components_of : Symbols → List Float
+components_of (Soft soft) = components soft.now []
+components_of (Hard bits) = components [] bits.now
+
+-- so many symbols, within the limit, and all of them there
+pub record Counted (soft : List Float) (count : ℕ) : Type 0 where
   pub few : count ≤ most
-  pub at_hand : (length soft ≡ 0 → ⊥) → 2 * count ≤ length soft
-  pub in_bits : length soft ≡ 0 → 2 * count ≤ length bits
+  pub all_there : 2 * count ≤ length soft
 
 -- `symbol_at`: symbol t has its re at 2t and its im behind that
 abbrev pub symbol_at : List Float → ℕ → Phasor
@@ -100,9 +104,9 @@ symbol_at soft t = record { re = get_or soft (2 * t) nan; im = get_or soft (2 * 
 -- ---- all symbols
 
 -- `forward`: a code as the step is for, as many symbols as are counted, and room for the survivors of each
-pub record Runnable (code : ConvCode) (soft : List Float) (bits : List ℕ) (count : ℕ) (rows : List ℕ) : Type 0 where
+pub record Runnable (code : ConvCode) (soft : List Float) (count : ℕ) (rows : List ℕ) : Type 0 where
   pub shape : Halved code half
-  pub symbols : Symbols soft bits count
+  pub symbols : Counted soft count
   pub room : count * (2 * half) ≤ length rows
 
 -- `forward`: the first least state r, and the survivors over the front of `rows`
@@ -114,8 +118,8 @@ pub record Runs (code : ConvCode) (soft : List Float) (count r : ℕ) (rows : Le
 
 -- `decode`: the same, and room for the word
 pub record Decodable
-    (code : ConvCode) (soft : List Float) (bits : List ℕ) (count : ℕ) (out scratch : List ℕ) : Type 0 where
-  pub ready : Runnable code soft bits count scratch
+    (code : ConvCode) (soft : List Float) (count : ℕ) (out scratch : List ℕ) : Type 0 where
+  pub ready : Runnable code soft count scratch
   pub room : count ≤ length out
 
 -- `decode`: the word over the front of `out`, and the survivors over that of `scratch`

@@ -5,7 +5,7 @@ ghost use Rattle.std.specs.Float.Ieee.{lt};
 ghost use Rattle.refusal.specs.Lent.{lent};
 ghost use Rattle.symbols.specs.Decode.{first_least};
 ghost use Rattle.symbols.specs.Inner.{half, Steppable, Selects, compared, LeastIn};
-ghost use Rattle.symbols.specs.Inner.{components, Symbols, symbol_at, Runnable, Runs};
+ghost use Rattle.symbols.specs.Inner.{components_of, Counted, symbol_at, Runnable, Runs};
 
 use crate::phasors::{Phasor, cost_of_pair, opposite, phasor_of, prices_of};
 use best_path::select::butterfly;
@@ -115,26 +115,38 @@ pub fn first_least(pm: &[f32; STATES]) -> usize
     least.state as usize
 }
 
-// Symbol t of those at hand as components, or where there are none, of the hard bits.
-fn symbol_at(soft: &[f32], bits: &[u8], t: usize) -> Phasor
-    requires { Symbols soft.now bits.now (t + 1) }
-    ensures { result ≡ symbol_at (components soft.now bits.now) t }
+// The symbols of a decoding, where they lie: of each two components, re before im, or two hard bits. Both forms come to
+// the one loop of `forward`, so that nobody needs room to make phasors of the bits.
+#[derive(Clone, Copy)]
+pub enum Symbols<'a> {
+    Soft(&'a [f32]),
+    Hard(&'a [u8]),
+}
+
+// Symbol t as a phasor.
+fn symbol_at(symbols: Symbols, t: usize) -> Phasor
+    requires { Counted (components_of symbols) (t + 1) }
+    ensures { result ≡ symbol_at (components_of symbols.entry) t }
 {
     let at = 2 * t;
-    if soft.len() == 0 {
-        let b0 = bits[at];
-        let b1 = bits[at + 1];
-        return phasor_of(b0, b1);
+    match symbols {
+        Symbols::Soft(soft) => {
+            let re = soft[at];
+            let im = soft[at + 1];
+            Phasor { re, im }
+        }
+        Symbols::Hard(bits) => {
+            let b0 = bits[at];
+            let b1 = bits[at + 1];
+            phasor_of(b0, b1)
+        }
     }
-    let re = soft[at];
-    let im = soft[at + 1];
-    Phasor { re, im }
 }
 
 // All symbols, from state 0. The survivors of each go to a row of rows; answers the first least state.
-pub fn forward(code: ConvCode, soft: &[f32], bits: &[u8], count: usize, rows: &mut [u8]) -> usize
-    requires { Runnable code soft.now bits.now count rows.old }
-    ensures { Runs code (components soft.now bits.now) count result (lent rows) }
+pub fn forward(code: ConvCode, symbols: Symbols, count: usize, rows: &mut [u8]) -> usize
+    requires { Runnable code (components_of symbols) count rows.old }
+    ensures { Runs code (components_of symbols.entry) count result (lent rows) }
 {
     let sent = trellis::sent_by_even(code, HALF);
     let c0 = sent.c0;
@@ -144,7 +156,7 @@ pub fn forward(code: ConvCode, soft: &[f32], bits: &[u8], count: usize, rows: &m
     let mut next = pm;
     let mut to = 0;
     for t in 0..count {
-        let symbol = symbol_at(soft, bits, t);
+        let symbol = symbol_at(symbols, t);
         step(
             code,
             &c0,

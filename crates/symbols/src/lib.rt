@@ -4,24 +4,24 @@
 ghost use Rattle.refusal.specs.Answer.{Says, done};
 ghost use Rattle.refusal.specs.Lent.{lent};
 ghost use Rattle.trellis.specs.Choice.{k5};
-ghost use Rattle.symbols.specs.Inner.{components, Decodable, Finds};
+ghost use Rattle.symbols.specs.Inner.{components_of, Decodable, Finds};
 ghost use Rattle.symbols.specs.Said.{room_for};
 ghost use Rattle.symbols.specs.Promise.{DecodesSymbols, DecodesHard};
 
 pub mod forward_pass;
 mod phasors;
 
-use forward_pass::{HALF, STATES, forward};
+use forward_pass::{HALF, STATES, Symbols, forward};
 use refusal::Refusal;
 
-// All symbols, of components or of hard bits, and the way back. The word goes to the front of out, the survivors to the
-// front of scratch. The code is chosen here, where both entries come together, so that it is a constant in the loop.
-fn decode(soft: &[f32], bits: &[u8], count: usize, out: &mut [u8], scratch: &mut [u8])
-    requires { Decodable k5 soft.now bits.now count out.old scratch.old }
-    ensures { Finds k5 (components soft.now bits.now) count (lent out) (lent scratch) }
+// All symbols and the way back. The word goes to the front of out, the survivors to the front of scratch. The code is
+// chosen here, where both entries come together, so that it is a constant in the loop.
+fn decode(symbols: Symbols, count: usize, out: &mut [u8], scratch: &mut [u8])
+    requires { Decodable k5 (components_of symbols) count out.old scratch.old }
+    ensures { Finds k5 (components_of symbols.entry) count (lent out) (lent scratch) }
 {
     let code = trellis::conv_code(0);
-    let last = forward(code, soft, bits, count, scratch);
+    let last = forward(code, symbols, count, scratch);
     best_path::trace(code, HALF, scratch, count, last, count, out);
 }
 
@@ -51,8 +51,7 @@ pub fn viterbi_decode(soft: &[f32], out: &mut [u8], scratch: &mut [u8]) -> Resul
     match f32_answers::first_beyond(&soft[..2 * count]) {
         Some(bad) => Err(Refusal::BadComponent(bad as u32)),
         None => {
-            let no_bits: [u8; 0] = [];
-            decode(soft, &no_bits, count, out, scratch);
+            decode(Symbols::Soft(soft), count, out, scratch);
             Ok(count)
         }
     }
@@ -68,7 +67,6 @@ pub fn viterbi_decode_hard(
 {
     let count = bits.len() / 2;
     refused_room(count, out.len(), scratch.len())?;
-    let no_components: [f32; 0] = [];
-    decode(&no_components, bits, count, out, scratch);
+    decode(Symbols::Hard(bits), count, out, scratch);
     Ok(count)
 }

@@ -4,7 +4,7 @@ use native.Mathlib.Omega.{arith}
 use Rattle.refusal.proofs.Told.{handed_on}
 use Rattle.refusal.proofs.Over.{both_refused}
 use Rattle.symbols.proofs.Answers.{soft_refused, beyond, beyond_few, all_within, finds_decodes}
-use Rattle.symbols.proofs.Components.{no_bits, all_at_hand}
+use Rattle.symbols.proofs.Components.{no_bits, soft_counted}
 use Rattle.symbols.proofs.Room.{room_few, room_decodable}
 use Rattle.symbols.proofs.viterbi_decode.Goals as goal
 
@@ -24,7 +24,7 @@ returns-in-Some c =
 pub decode-requires : goal.decode-requires
 decode-requires c =
     let is = c.in_ok-refused_room.ensures in
-    room_decodable _ _ _ is (all_at_hand (room_few _ _ _ is) (omega arith)) refl refl
+    room_decodable _ _ _ is (soft_counted _ (room_few _ _ _ is) (omega arith)) refl refl
 
 pub returns-in-None : goal.returns-in-None
 returns-in-None c =

@@ -4,7 +4,7 @@ use native.Mathlib.Omega.{arith}
 use Rattle.refusal.proofs.Told.{handed_on}
 use Rattle.refusal.proofs.Over.{both_refused}
 use Rattle.symbols.proofs.Answers.{hard_refused, hard_accepted, finds_decodes}
-use Rattle.symbols.proofs.Components.{all_in_bits}
+use Rattle.symbols.proofs.Components.{hard_counted}
 use Rattle.symbols.proofs.Room.{room_few, room_decodable}
 use Rattle.symbols.proofs.viterbi_decode_hard.Goals as goal
 
@@ -16,7 +16,7 @@ returns-in_err-refused_room c =
 pub decode-requires : goal.decode-requires
 decode-requires c =
     let is = c.in_ok-refused_room.ensures in
-    room_decodable _ _ _ is (all_in_bits (room_few _ _ _ is) (omega arith)) refl refl
+    room_decodable _ _ _ is (hard_counted _ (room_few _ _ _ is) (omega arith)) refl refl
 
 pub returns : goal.returns
 returns c = finds_decodes (hard_accepted _ _ _ c.in_ok-refused_room.ensures) c.decode.ensures
