@@ -8,6 +8,7 @@ use Prim.Native.Nat.{ℕ, ◌-◌}
 use lib.ListN.{get_or}
 use Rattle.refusal.specs.Answer.{Said, accepted, refused, refuse_when, number_of, place_of, answer_said}
 use Rattle.refusal.specs.Answer.{Says, Numbers}
+use Rattle.refusal.specs.declared.Answered.{Answered}
 use Rattle.refusal.specs.declared.Refusal.{Refusal}
 use Rattle.refusal.specs.declared.Refusal.TheVariants as refusal
 use Rattle.refusal.proofs.Determined.{Telling}
@@ -52,6 +53,10 @@ says_tell said r r' p q = answer_told r r' (p ∙ sym q)
 
 pub numbers_tell : Telling Numbers
 numbers_tell said r r' p q = p ∙ sym q
+
+-- what a call of a coder by value gives is its answer and the coder after it
+pub answered_told : {A C : Type 0} (r r' : Answered A C) → r.answer ≡ r'.answer → r.coder ≡ r'.coder → r ≡ r'
+answered_told {A} {C} r r' = ap₂ (λ (a : A) (c : C). record { answer = a; coder = c })
 
 -- what a `?` hands on is the refusal itself
 pub handed_on : {A : Type 0} (r : Result A Refusal) (q : Refusal) → IsErr r × IsErrAnd r (λ e. e ≡ q) → r ≡ Err q

@@ -1,6 +1,7 @@
 -- What document 01 says of an answer: the value of an accepted call, or the number and the place of a refusal.
--- Definitions only.
+-- And what a refused call of a coder by value gives. Definitions only.
 use Rattle.std.specs.Prelude.{Bool, true, false, cond, ◌≡◌, ℕ, ◌+◌, ◌*◌, ◌/◌, ◌%◌, ◌^◌, ltb, Result, Ok, Err}
+use Rattle.refusal.specs.declared.Answered.{Answered}
 use Rattle.refusal.specs.declared.Refusal.{Refusal}
 use Rattle.refusal.specs.declared.Refusal.TheVariants as refusal
 use Rattle.refusal.specs.Numbers.{unknown_code, unknown_rate, too_many, short_output, short_scratch, bad_reading}
@@ -77,3 +78,8 @@ Says r said = answer_said r ≡ said
 
 abbrev pub Numbers : ℕ → Said ℕ → Type 0
 Numbers r said = r ≡ door_number said
+
+-- what a refused call of a coder by value gives: the refusal, and the coder as it came
+pub record Refuses {A C : Type 0} (why : Refusal) (coder : C) (r : Answered (Result A Refusal) C) : Type 0 where
+  pub answer : r.answer ≡ Err why
+  pub state : r.coder ≡ coder

@@ -3,7 +3,7 @@
 #![tactic(auto)]
 
 ghost use Rattle.std.specs.Prelude.{◌≡◌};
-ghost use Rattle.refusal.specs.Answer.{number_of, place_of, answer_said, refused, Numbers};
+ghost use Rattle.refusal.specs.Answer.{number_of, place_of, answer_said, refused, Numbers, Refuses};
 
 // The most info bits or symbols that one call may bring.
 pub const MOST: usize = 16384;
@@ -104,4 +104,16 @@ pub fn count_number(answer: Result<usize, Refusal>) -> u64
 pub struct Answered<A, C> {
     pub answer: A,
     pub coder: C,
+}
+
+impl<A, C> Answered<Result<A, Refusal>, C> {
+    // A refusal: the coder as it came.
+    pub fn refused(coder: C, why: Refusal) -> Self
+        ensures { Refuses why coder result }
+    {
+        Answered {
+            answer: Err(why),
+            coder,
+        }
+    }
 }

@@ -10,9 +10,11 @@ use lib.Dec.{ltb}
 use lib.ListN.{length, replicate, set}
 use Rattle.best_path.proofs.Candidates.{where_true, where_false}
 use Rattle.f32s.specs.Single.{zero32}
-use Rattle.std.specs.Prelude.{Result, Ok, Err}
-use Rattle.refusal.specs.declared.Refusal.TheVariants as refusal
-use Rattle.refusal.specs.Answer.{accepted, refused, Says}
+use Rattle.std.specs.Prelude.{Result, Ok}
+use Rattle.refusal.specs.declared.Answered.{Answered}
+use Rattle.refusal.specs.declared.Refusal.{Refusal}
+use Rattle.refusal.specs.declared.Refusal.TheVariants.{ShortOutput}
+use Rattle.refusal.specs.Answer.{accepted, refused, answer_said, Refuses}
 use Rattle.refusal.specs.Lent.{Lent}
 use Rattle.refusal.specs.Numbers.{short_output}
 use Rattle.refusal.proofs.Filling.{Written, as_before, one_more, written_inside}
@@ -51,14 +53,14 @@ module _ (code : ConvCode) (late : ℕ) (st : State) (room : ℕ) where
       flush_is_run code late st ∙ where_false (ltb room late) st (flushed code late st) (le-ltb room late h)
 
 pub room_refused :
-    {front : Front} {history out : List ℕ} → length out < lag →
-    FlushesLent front (record { answer = Err refusal.ShortOutput; coder = front }) (record { given = history; left = history })
-    (record { given = out; left = out })
-room_refused {front} {history} {out} h =
+    {front : Front} {history out : List ℕ} {r : Answered (Result ℕ Refusal) Front} →
+    Refuses ShortOutput front r → length out < lag →
+    FlushesLent front r (record { given = history; left = history }) (record { given = out; left = out })
+room_refused {front} {history} {out} refuses h =
     let st = state_of front history in
     record {
-      writes = writes_refused (refused_said k5 lag st (length out) h) refl refl;
-      state = refused_state k5 lag st (length out) h;
+      writes = writes_refused (refused_said k5 lag st (length out) h) (ap answer_said refuses.answer) refl;
+      state = ap (λ (f : Front). state_of f history) refuses.state ∙ refused_state k5 lag st (length out) h;
     }
 
 -- ---- symbol by symbol

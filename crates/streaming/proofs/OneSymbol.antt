@@ -13,7 +13,8 @@ use Rattle.f32s.specs.Single.{within}
 use Rattle.std.specs.Prelude.{Option, Some, None, Result, Ok}
 use Rattle.refusal.specs.declared.Answered.{Answered}
 use Rattle.refusal.specs.declared.Refusal.{Refusal}
-use Rattle.refusal.specs.Answer.{accepted, refused}
+use Rattle.refusal.specs.declared.Refusal.TheVariants.{BadComponent}
+use Rattle.refusal.specs.Answer.{accepted, refused, Refuses}
 use Rattle.refusal.specs.Lent.{Lent}
 use Rattle.refusal.specs.Numbers.{bad_component}
 use Rattle.trellis.specs.Choice.{k5}
@@ -21,9 +22,9 @@ use Rattle.streaming_steps.specs.declared.Front.{Front}
 use Rattle.streaming_steps.specs.Steps.{lag, rows_kept, turns, new_mets, new_froms, normalised_at, kept}
 use Rattle.streaming_steps.specs.Inner.{SelectsNew, NormalisedAfter, Keeps}
 use Rattle.streaming.specs.Stream.{State, fed, bit_behind, given}
-use Rattle.streaming.specs.Said.{of_symbol, feed_said, feed_leaves}
+use Rattle.streaming.specs.Said.{of_symbol, feed_said, feed_leaves, emitted_said}
 use Rattle.streaming.specs.Decoder.{state_of}
-use Rattle.streaming.specs.Inner.{RefusesAt, Advances, FeedsLent}
+use Rattle.streaming.specs.Inner.{Advances, FeedsLent}
 
 -- the row that the code writes to is the one of the symbols so far
 row_of-turn : (turn states : ℕ) → states * (turn % rows_kept) ≡ turn % turns % rows_kept * states
@@ -82,21 +83,22 @@ module _ {A : Type 0} (re im : Float) (good bad_re bad_im : A) where
 
 module _ {front : Front} {history : List ℕ} {re im : Float} {r : Answered (Result (Option ℕ) Refusal) Front} where
   pub refused_re :
-      RefusesAt 0 front r → within re ≡ false → FeedsLent front re im r (record { given = history; left = history })
+      Refuses (BadComponent 0) front r → within re ≡ false →
+      FeedsLent front re im r (record { given = history; left = history })
   unfolding feed_said feed_leaves
   refused_re refuses e =
       record {
-        answer = refuses.answer ∙ where_bad_re re im _ _ (refused bad_component 1) e;
+        answer = ap emitted_said refuses.answer ∙ where_bad_re re im _ _ (refused bad_component 1) e;
         state = ap (λ (f : Front). state_of f history) refuses.state ∙ where_bad_re re im _ _ (state_of front history) e;
       }
 
   pub refused_im :
-      RefusesAt 1 front r → within re ≡ true → within im ≡ false →
+      Refuses (BadComponent 1) front r → within re ≡ true → within im ≡ false →
       FeedsLent front re im r (record { given = history; left = history })
   unfolding feed_said feed_leaves
   refused_im refuses e f =
       record {
-        answer = refuses.answer ∙ where_bad_im re im _ (refused bad_component 0) _ e f;
+        answer = ap emitted_said refuses.answer ∙ where_bad_im re im _ (refused bad_component 0) _ e f;
         state = ap (λ (f : Front). state_of f history) refuses.state ∙ where_bad_im re im _ (state_of front history) _ e f;
       }
 

@@ -2,14 +2,14 @@
 -- the call is given, what it returns, and what it leaves in each argument. `held` tells two decoders apart, field by field.
 -- The laws of the entries in place are over the records that their contracts cite. Assumes nothing.
 use mathlib.Core.List.{List}
-use mathlib.Core.Path.{◌≡◌, ap, ap₂, sym, ◌∙◌}
+use mathlib.Core.Path.{◌≡◌, ap, sym, ◌∙◌}
 use Prim.Native.Nat.{ℕ}
 use lib.Ieee.{Float}
 use Rattle.std.specs.Prelude.{Option, Some, None, Result, Ok, Err}
 use Rattle.refusal.specs.Answer.{Said, Says}
 use Rattle.refusal.specs.declared.Answered.{Answered}
 use Rattle.refusal.specs.declared.Refusal.{Refusal}
-use Rattle.refusal.proofs.Told.{same_refusal, says_tell}
+use Rattle.refusal.proofs.Told.{same_refusal, answered_told, says_tell}
 use Rattle.refusal.proofs.Determined.{Once, OnceLeft, Determined₂, Determined₃, Telling}
 use Rattle.streaming.specs.declared.StreamingViterbi.{StreamingViterbi}
 use Rattle.streaming.specs.Stream.{State}
@@ -61,9 +61,6 @@ emitted_told (Err q) (Err r) e = ap Err (same_refusal q r (cc) (cc))
 pub emits_tell : Telling Emits
 emits_tell said r r' p q = emitted_told r r' (p ∙ sym q)
 
-abbrev answered : {A : Type 0} → A → StreamingViterbi → Answered A StreamingViterbi
-answered a d = record { answer = a; coder = d }
-
 -- ---- by value
 
 pub new_once : (κs : _) → Once (λ (r : StreamingViterbi). new.Post κs tt r tt)
@@ -75,7 +72,7 @@ pub feed_symbol-once :
     feed_symbol.Post κs (d, (re, (im, tt))) r (d, (re, (im, tt))))
 feed_symbol-once κs d re im r r' p q =
     let (answer, state) = feeds_once Emits emits_tell (held d) re im r.answer r'.answer _ _ p q in
-    ap₂ answered answer (held_told r.coder r'.coder state)
+    answered_told r r' answer (held_told r.coder r'.coder state)
 
 pub flush_by_value_once :
     (κs d out : _) →
@@ -83,7 +80,7 @@ pub flush_by_value_once :
     flush_by_value.Post κs (d, (out, tt)) r (d, (left, tt)))
 flush_by_value_once κs d out r r' left left' p q =
     let (answer, state, output) = flushes_once Says says_tell (held d) out.now r.answer r'.answer _ _ _ _ p q in
-    (ap₂ answered answer (held_told r.coder r'.coder state), output)
+    (answered_told r r' answer (held_told r.coder r'.coder state), output)
 
 -- ---- in place
 

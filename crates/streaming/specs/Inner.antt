@@ -2,21 +2,15 @@
 use Rattle.std.specs.Prelude.{◌≡◌, ℕ, Float, Option, Result}
 use Rattle.refusal.specs.declared.Answered.{Answered}
 use Rattle.refusal.specs.declared.Refusal.{Refusal}
-use Rattle.refusal.specs.Answer.{refused, Says}
+use Rattle.refusal.specs.Answer.{Says}
 use Rattle.refusal.specs.Lent.{Lent}
-use Rattle.refusal.specs.Numbers.{bad_component}
 use Rattle.trellis.specs.Choice.{k5}
 use Rattle.streaming_steps.specs.declared.Front.{Front}
 use Rattle.streaming_steps.specs.Steps.{lag}
 use Rattle.streaming.specs.Stream.{fed}
-use Rattle.streaming.specs.Said.{emitted_said, Emits}
+use Rattle.streaming.specs.Said.{Emits}
 use Rattle.streaming.specs.Decoder.{state_of}
 use Rattle.streaming.specs.Promise.{Feeds, Flushes}
-
--- `refused_at`: refusal 7, and the front as it came
-pub record RefusesAt (place : ℕ) (front : Front) (r : Answered (Result (Option ℕ) Refusal) Front) : Type 0 where
-  pub answer : emitted_said r.answer ≡ refused bad_component place
-  pub state : r.coder ≡ front
 
 -- `advance`: the front r and the history are the state after the symbol
 pub record Advances (front : Front) (re im : Float) (r : Front) (history : Lent ℕ) : Type 0 where

@@ -10,7 +10,7 @@ ghost use Rattle.streaming.specs.Stream.{bit_behind};
 ghost use Rattle.streaming.specs.Said.{Emits};
 ghost use Rattle.streaming.specs.Decoder.{state_of, held};
 ghost use Rattle.streaming.specs.Promise.{Begins, Feeds, Flushes};
-ghost use Rattle.streaming.specs.Inner.{RefusesAt, Advances, FeedsLent, FlushesLent};
+ghost use Rattle.streaming.specs.Inner.{Advances, FeedsLent, FlushesLent};
 
 use butterflies::smallest::MARK;
 use refusal::{Answered, Refusal};
@@ -51,16 +51,6 @@ fn next_turn(turn: u8) -> u8
     if turn < 255 { turn + 1 } else { 0 }
 }
 
-// Refusal 7: the front as it came.
-fn refused_at(place: u32, front: Front) -> Answered<Emitted, Front>
-    ensures { RefusesAt place front result }
-{
-    Answered {
-        answer: Err(Refusal::BadComponent(place)),
-        coder: front,
-    }
-}
-
 // One symbol: the survivors go to the history, and the front moves on.
 fn advance(front: Front, history: &mut [u8; 2048], re: f32, im: f32) -> Front
     ensures { Advances front re im result (lent history) }
@@ -95,11 +85,11 @@ fn feed_lent(front: Front, history: &mut [u8; 2048], re: f32, im: f32) -> Answer
 {
     let re_good = f32s::within(re);
     if !re_good {
-        return refused_at(0, front);
+        return Answered::refused(front, Refusal::BadComponent(0));
     }
     let im_good = f32s::within(im);
     if !im_good {
-        return refused_at(1, front);
+        return Answered::refused(front, Refusal::BadComponent(1));
     }
     let next = advance(front, history, re, im);
     if next.count < FULL {
@@ -124,10 +114,7 @@ fn flush_lent(
     ensures { FlushesLent front result (lent history) (lent out) }
 {
     if out.len() < LAG {
-        return Answered {
-            answer: Err(Refusal::ShortOutput),
-            coder: front,
-        };
+        return Answered::refused(front, Refusal::ShortOutput);
     }
     let mut at = front;
     let mut written = 0;

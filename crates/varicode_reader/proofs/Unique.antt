@@ -1,9 +1,8 @@
 -- Of each entry, any two outcomes that its contract allows are equal. `Post` is the contract: of what the call is given, what it returns,
 -- and what it leaves in each argument. `reader` tells two records apart, field by field. Assumes nothing.
-use mathlib.Core.Path.{◌≡◌, ap, ap₂, sym, ◌∙◌}
+use mathlib.Core.Path.{◌≡◌, ap, sym, ◌∙◌}
 use Rattle.queue.proofs.Unique.{taken_told}
-use Rattle.refusal.specs.declared.Answered.{Answered}
-use Rattle.refusal.proofs.Told.{answer_told}
+use Rattle.refusal.proofs.Told.{answer_told, answered_told}
 use Rattle.varicode_reader.specs.declared.VaricodeDecoder.{VaricodeDecoder}
 use Rattle.varicode_reader.specs.Reader.{Reader}
 use Rattle.varicode_reader.specs.Records.{reader, Pushed, NextChar}
@@ -36,17 +35,14 @@ pub for_pauses-determined :
     for_pauses.Post κs given r left → for_pauses.Post κs given r' left' → r ≡ r'
 for_pauses-determined κs given r r' left left' p q = reader_told r r' (p ∙ sym q)
 
-abbrev answered : {A : Type 0} → A → VaricodeDecoder → Answered A VaricodeDecoder
-answered a d = record { answer = a; coder = d }
-
 pub push_bit-determined :
     (κs : _) (given : _) (r r' : Pushed) (left left' : _) → push_bit.Post κs given r left → push_bit.Post κs given r' left' → r ≡ r'
 push_bit-determined κs given r r' left left' p q =
-    ap₂ answered (answer_told r.answer r'.answer (p.answer ∙ sym q.answer))
+    answered_told r r' (answer_told r.answer r'.answer (p.answer ∙ sym q.answer))
     (reader_told r.coder r'.coder (p.state ∙ sym q.state))
 
 pub pop_char-determined :
     (κs : _) (given : _) (r r' : NextChar) (left left' : _) → pop_char.Post κs given r left → pop_char.Post κs given r' left' → r ≡ r'
 pop_char-determined κs given r r' left left' p q =
-    ap₂ answered (taken_told r.answer r'.answer (p.answer ∙ sym q.answer))
+    answered_told r r' (taken_told r.answer r'.answer (p.answer ∙ sym q.answer))
     (reader_told r.coder r'.coder (p.state ∙ sym q.state))

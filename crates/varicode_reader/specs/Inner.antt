@@ -1,21 +1,11 @@
--- What the inner functions ensure, of which `push_bit` is made: a bit that is taken or refused, one that joins the
--- word, and the word forgotten. Definitions only.
-use Rattle.std.specs.Prelude.{◌≡◌, ℕ, Ok, Err}
+-- What the inner functions ensure, of which `push_bit` is made: a bit that joins the word, and the word forgotten.
+-- Definitions only.
+use Rattle.std.specs.Prelude.{◌≡◌, ℕ}
 use Rattle.queue.specs.declared.Queue.{Queue}
 use Rattle.queue.specs.Ring.{char_room}
-use Rattle.refusal.specs.declared.Refusal.{Refusal}
 use Rattle.varicode_reader.specs.declared.VaricodeDecoder.{VaricodeDecoder}
 use Rattle.varicode_reader.specs.Reader.{nothing_heard, joined_to, read_heard}
-use Rattle.varicode_reader.specs.Records.{reader, Pushed}
-
-pub record Accepts (d : VaricodeDecoder) (r : Pushed) : Type 0 where
-  pub answer : r.answer ≡ Ok tt
-  pub state : r.coder ≡ d
-
--- the reader as it came
-pub record Refuses (why : Refusal) (d : VaricodeDecoder) (r : Pushed) : Type 0 where
-  pub answer : r.answer ≡ Err why
-  pub state : r.coder ≡ d
+use Rattle.varicode_reader.specs.Records.{reader}
 
 pub record Joins (d : VaricodeDecoder) (b : ℕ) (r : VaricodeDecoder) : Type 0 where
   pub pauses : r.pauses ≡ d.pauses

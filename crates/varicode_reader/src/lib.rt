@@ -6,7 +6,7 @@ ghost use Rattle.std.specs.Prelude.{true, false, ◌≡◌, ◌≤◌};
 ghost use Rattle.varicode_reader.specs.Reader.{fresh_reader, zero_ends, read_heard};
 ghost use Rattle.varicode_reader.specs.Records.{reader};
 ghost use Rattle.varicode_reader.specs.Promise.{Pushes, GivesChar};
-ghost use Rattle.varicode_reader.specs.Inner.{Accepts, Refuses, Joins, Forgets};
+ghost use Rattle.varicode_reader.specs.Inner.{Joins, Forgets};
 
 use queue::CharQueue;
 use refusal::{Answered, Refusal};
@@ -27,16 +27,6 @@ pub struct VaricodeDecoder {
 pub type Pushed = Answered<Result<(), Refusal>, VaricodeDecoder>;
 
 pub type NextChar = Answered<Option<u8>, VaricodeDecoder>;
-
-// A bit that is taken, with the reader after it.
-fn done(decoder: VaricodeDecoder) -> Pushed
-    ensures { Accepts decoder result }
-{
-    Pushed {
-        answer: Ok(()),
-        coder: decoder,
-    }
-}
 
 // A reader that has heard nothing, with no characters.
 #[tactic(auto, unfolding(crate::specs::Reader::fresh_reader))]
@@ -73,12 +63,15 @@ impl VaricodeDecoder {
         ensures { Pushes self bit result }
     {
         if 1 < bit {
-            return self.refused(Refusal::BadBit);
+            return Pushed::refused(self, Refusal::BadBit);
         }
         if bit == 0 && self.zero_ends() {
             return self.end_word();
         }
-        done(self.joined(bit))
+        Pushed {
+            answer: Ok(()),
+            coder: self.joined(bit),
+        }
     }
 
     // Whether a zero ends the word: the second zero of a gap, or, for pauses, one while nothing is heard.
@@ -97,22 +90,18 @@ impl VaricodeDecoder {
     {
         let len = (self.len % 12).saturating_sub(1);
         let Some(c) = varicode_words::varicode_decode(self.shift / 2, len) else {
-            return done(self.forgotten(self.chars));
+            return Pushed {
+                answer: Ok(()),
+                coder: self.forgotten(self.chars),
+            };
         };
         let chars = self.chars.read();
         if chars.count == queue::CHARS {
-            return self.refused(Refusal::QueueFull);
+            return Pushed::refused(self, Refusal::QueueFull);
         }
-        done(self.forgotten(chars.put(c)))
-    }
-
-    // A refusal: the reader as it came.
-    fn refused(self, r: Refusal) -> Pushed
-        ensures { Refuses r self result }
-    {
         Pushed {
-            answer: Err(r),
-            coder: self,
+            answer: Ok(()),
+            coder: self.forgotten(chars.put(c)),
         }
     }
 

@@ -14,7 +14,7 @@ use Rattle.queue.specs.declared.Queue.{Queue}
 use Rattle.queue.specs.Records.{ring}
 use Rattle.queue.specs.Ring.{Ring, read_as, put_all, bit_room}
 use Rattle.queue.proofs.Rings.{read_room, put_all-append, put_all-room}
-use Rattle.refusal.specs.Answer.{refused, answer_said}
+use Rattle.refusal.specs.Answer.{refused, answer_said, Refuses}
 use Rattle.refusal.specs.declared.Refusal.{Refusal}
 use Rattle.refusal.specs.declared.Refusal.TheVariants.{BadByte}
 use Rattle.refusal.specs.Numbers.{queue_full, bad_byte}
@@ -24,7 +24,7 @@ use Rattle.varicode_writer.specs.Writer.{Call, opening, byte, closing, gap, bits
 use Rattle.varicode_writer.specs.Writer.{Writer, high_byte, too_many, put_said, put_leaves}
 use Rattle.varicode_writer.specs.Records.{writer, Wrote}
 use Rattle.varicode_writer.specs.Promise.{Puts}
-use Rattle.varicode_writer.specs.Inner.{Accepts, Refuses, held, Spaced, Full}
+use Rattle.varicode_writer.specs.Inner.{Accepts, held, Spaced, Full}
 
 -- what fits behind a gap has room there
 pub spaced_room :

@@ -1,9 +1,8 @@
 -- Of each entry, any two outcomes that its contract allows are equal. `Post` is the contract: of what the call is given, what it returns,
 -- and what it leaves in each argument. `writer` tells two records apart, field by field. Assumes nothing.
-use mathlib.Core.Path.{◌≡◌, ap, ap₂, sym, ◌∙◌}
+use mathlib.Core.Path.{◌≡◌, ap, sym, ◌∙◌}
 use Rattle.queue.proofs.Unique.{taken_told}
-use Rattle.refusal.specs.declared.Answered.{Answered}
-use Rattle.refusal.proofs.Told.{answer_told}
+use Rattle.refusal.proofs.Told.{answer_told, answered_told}
 use Rattle.varicode_writer.specs.declared.VaricodeEncoder.{VaricodeEncoder}
 use Rattle.varicode_writer.specs.Writer.{Writer, Call}
 use Rattle.varicode_writer.specs.Records.{writer, Wrote, NextBit}
@@ -27,12 +26,9 @@ pub new_encoder_determined :
     new_encoder.Post κs given r left → new_encoder.Post κs given r' left' → r ≡ r'
 new_encoder_determined κs given r r' left left' p q = writer_told r r' (p ∙ sym q)
 
-abbrev answered : {A : Type 0} → A → VaricodeEncoder → Answered A VaricodeEncoder
-answered a e = record { answer = a; coder = e }
-
 puts_determined : (e : VaricodeEncoder) (c : Call) (r r' : Wrote) → Puts e c r → Puts e c r' → r ≡ r'
 puts_determined e c r r' p q =
-    ap₂ answered (answer_told r.answer r'.answer (p.answer ∙ sym q.answer))
+    answered_told r r' (answer_told r.answer r'.answer (p.answer ∙ sym q.answer))
     (writer_told r.coder r'.coder (p.state ∙ sym q.state))
 
 pub push_preamble-determined :
@@ -52,5 +48,5 @@ push_postamble-determined κs given r r' left left' p q = puts_determined _ _ r 
 pub next_bit-determined :
     (κs : _) (given : _) (r r' : NextBit) (left left' : _) → next_bit.Post κs given r left → next_bit.Post κs given r' left' → r ≡ r'
 next_bit-determined κs given r r' left left' p q =
-    ap₂ answered (taken_told r.answer r'.answer (p.answer ∙ sym q.answer))
+    answered_told r r' (taken_told r.answer r'.answer (p.answer ∙ sym q.answer))
     (writer_told r.coder r'.coder (p.state ∙ sym q.state))

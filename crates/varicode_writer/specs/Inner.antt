@@ -1,4 +1,4 @@
--- What the inner functions ensure: the two ways of a call that puts bits. Definitions only.
+-- What the inner functions ensure: a call that puts bits is done, and whether its bits fit. Definitions only.
 use Rattle.std.specs.Prelude.{Bool, ◌≡◌, ℕ, ◌+◌, ◌≤◌, ◌<◌, replicate, Result, Ok, Err}
 use Rattle.queue.specs.declared.Queue.{Queue}
 use Rattle.queue.specs.Records.{ring}
@@ -6,20 +6,14 @@ use Rattle.queue.specs.Ring.{Ring, read_as, put_all, bit_room}
 use Rattle.queue.specs.Inner.{Room}
 use Rattle.refusal.specs.declared.Refusal.{Refusal}
 use Rattle.refusal.specs.declared.Refusal.TheVariants as refusal
-use Rattle.varicode_writer.specs.declared.VaricodeEncoder.{VaricodeEncoder}
 use Rattle.varicode_writer.specs.Writer.{Writer}
 use Rattle.varicode_writer.specs.Records.{Wrote}
 
--- done, with these bits pending
+-- `done`, with these bits pending
 pub record Accepts (q : Queue bit_room) (flag : Bool) (r : Wrote) : Type 0 where
   pub answer : r.answer ≡ Ok tt
   pub pending : r.coder.pending ≡ q
   pub first : r.coder.first ≡ flag
-
--- refused, the writer as it came
-pub record Refuses (why : Refusal) (e : VaricodeEncoder) (r : Wrote) : Type 0 where
-  pub answer : r.answer ≡ Err why
-  pub state : r.coder ≡ e
 
 -- how many bits are pending
 abbrev pub held : Writer → ℕ

@@ -5,7 +5,7 @@ ghost use Rattle.std.specs.Prelude.{◌≡◌, length};
 ghost use Rattle.varicode_writer.specs.Writer.{opening, byte, closing, gap, fresh_writer};
 ghost use Rattle.varicode_writer.specs.Records.{writer};
 ghost use Rattle.varicode_writer.specs.Promise.{Puts, GivesBit};
-ghost use Rattle.varicode_writer.specs.Inner.{Accepts, Refuses, Spaces};
+ghost use Rattle.varicode_writer.specs.Inner.{Accepts, Spaces};
 
 use queue::BitQueue;
 use refusal::{Answered, Refusal};
@@ -57,7 +57,7 @@ impl VaricodeEncoder {
     {
         match self.spaced(0, n) {
             Ok(q) => done(q.put_run(0, n), true),
-            Err(r) => self.refused(r),
+            Err(r) => Wrote::refused(self, r),
         }
     }
 
@@ -68,12 +68,12 @@ impl VaricodeEncoder {
         ensures { Puts self (byte b) result }
     {
         if b >= 128 {
-            return self.refused(Refusal::BadByte);
+            return Wrote::refused(self, Refusal::BadByte);
         }
         let word = varicode_words::varicode_encode(b);
         match self.spaced(gap_len(self.first), word.len as usize) {
             Ok(q) => done(q.put_word(word.bits, word.len), false),
-            Err(r) => self.refused(r),
+            Err(r) => Wrote::refused(self, r),
         }
     }
 
@@ -83,7 +83,7 @@ impl VaricodeEncoder {
     {
         match self.spaced(gap_len(self.first), n) {
             Ok(q) => done(q.put_run(1, n), self.first),
-            Err(r) => self.refused(r),
+            Err(r) => Wrote::refused(self, r),
         }
     }
 
@@ -97,16 +97,6 @@ impl VaricodeEncoder {
             return Err(Refusal::QueueFull);
         }
         Ok(q.put_run(0, zeros))
-    }
-
-    // A refusal: the writer as it came.
-    fn refused(self, r: Refusal) -> Wrote
-        ensures { Refuses r self result }
-    {
-        Wrote {
-            answer: Err(r),
-            coder: self,
-        }
     }
 
     // The next bit, taken out.

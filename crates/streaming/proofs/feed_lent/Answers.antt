@@ -6,11 +6,11 @@ use Rattle.streaming.proofs.feed_lent.Goals as goal
 
 pub returns-then-not-re_good : goal.returns-then-not-re_good
 returns-then-not-re_good c =
-    refused_re c.refused_at.ensures (sym c.within-re_good.ensures ∙ c.if-not-re_good.true)
+    refused_re c.refused.ensures (sym c.within-re_good.ensures ∙ c.if-not-re_good.true)
 
 pub returns-then-not-im_good : goal.returns-then-not-im_good
 returns-then-not-im_good c =
-    refused_im c.refused_at-then-not-im_good.ensures (sym c.within-re_good.ensures ∙ c.if-not-re_good.false)
+    refused_im c.refused-then-not-im_good.ensures (sym c.within-re_good.ensures ∙ c.if-not-re_good.false)
     (sym c.within-im_good.ensures ∙ c.if-not-im_good.true)
 
 pub returns-then-next-lt-FULL : goal.returns-then-next-lt-FULL

@@ -6,7 +6,7 @@ use Rattle.streaming.proofs.flush_lent.Goals as goal
 use Rattle.streaming.proofs.flush_lent.Goals.{else-at-ge-FULL, then-at-ge-FULL}
 
 pub returns-then-out-lt-LAG : goal.returns-then-out-lt-LAG
-returns-then-out-lt-LAG c = room_refused (omega arith)
+returns-then-out-lt-LAG c = room_refused c.refused.ensures (omega arith)
 
 pub loop-init : goal.loop-init
 loop-init c = flushing_starts _ _ _ (omega arith)
