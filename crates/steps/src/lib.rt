@@ -140,6 +140,7 @@ pub fn forward<D: Decoder, R: Readings<D>>(
     let mut column = 0;
     let mut at = 0;
     let mut to = 0;
+    // A column, a place in the readings and a row go on at three paces: chunks of the rows would spare one of them.
     for t in 0..steps {
         let a = readings.value_at(row0[column], at);
         at = correlation::after(row0[column], at);

@@ -118,6 +118,7 @@ fn flush_lent(
     }
     let mut at = front;
     let mut written = 0;
+    // How many bits come is seen as they come, so the place of the next is counted.
     for _ in 0..LAG {
         at = advance(at, history, 0.0, 0.0);
         if FULL <= at.count {

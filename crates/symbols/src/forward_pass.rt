@@ -155,6 +155,7 @@ pub fn forward(code: ConvCode, symbols: Symbols, count: usize, rows: &mut [u8]) 
     pm[0] = 0.0;
     let mut next = pm;
     let mut to = 0;
+    // By number: pairs of components and pairs of bits are two types of iterator.
     for t in 0..count {
         let symbol = symbol_at(symbols, t);
         step(
