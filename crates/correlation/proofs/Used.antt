@@ -1,7 +1,7 @@
 -- Which readings are used: as many as are needed, where there are so many. Assumes nothing.
 use mathlib.Core.List.{List}
-use mathlib.Core.Path.{◌≡◌, refl, sym, ap, ◌∙◌}
-use Prim.Native.Nat.{ℕ, ◌≤◌, ◌<◌}
+use mathlib.Core.Path.{◌≡◌, sym, ap, ◌∙◌}
+use Prim.Native.Nat.{ℕ, ◌≤◌, ◌<◌, min}
 use native.Mathlib.Decide.{dec_lt}
 use native.Mathlib.Omega.{arith}
 use lib.ListN.{length, get_or, take, get_or-eq_default}
@@ -32,13 +32,10 @@ pub usable_few : {keep : KeepPattern} {steps : ℕ} → Usable keep steps → co
 usable_few {keep} {steps} usable =
     omega (arith, coded_le (keep_of keep) (rows_pattern keep usable.pattern) steps, usable.few)
 
-pub uses_all : (need count coded : ℕ) → coded ≡ need → need ≤ most_readings → count < coded → UsedOf need count count
-uses_all need count coded e few h =
-    record { short = λ g. refl; enough = λ g. absurd (omega (arith, e, h, g)); few = omega (arith, e, h, few) }
-
-pub uses_needed : (need count coded : ℕ) → coded ≡ need → need ≤ most_readings → coded ≤ count → UsedOf need count coded
-uses_needed need count coded e few h =
-    record { short = λ g. absurd (omega (arith, e, h, g)); enough = λ g. e; few = omega (arith, e, few) }
+pub uses_fewer :
+    {need count coded used : ℕ} → coded ≡ need → need ≤ most_readings → used ≡ min count coded → UsedOf need count used
+uses_fewer e few is =
+    record { short = λ g. omega (arith, e, is, g); enough = λ g. omega (arith, e, is, g); few = omega (arith, e, few, is) }
 
 pub used_within : {need count used : ℕ} → UsedOf need count used → used ≤ count
 used_within {need} {count} is =

@@ -27,7 +27,7 @@ fn used_of(keep: KeepPattern, steps: usize, count: usize) -> usize
     ensures { UsedOf (coded_length (keep_of keep) steps) count result }
 {
     let coded = trellis::coded_len(keep, steps);
-    if count < coded { count } else { coded }
+    count.min(coded)
 }
 
 // The number of the reading after a place of that column.

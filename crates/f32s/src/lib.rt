@@ -96,6 +96,7 @@ pub fn from_all_bytes(bytes: &[u8], values: &mut [f32]) -> usize
 {
     let (fours, _) = bytes.as_chunks::<4>();
     let count = values.len().min(fours.len());
+    // Written by index: of what is written through a zip a proof knows the length and no content.
     for (i, [b0, b1, b2, b3]) in fours[..count].iter().enumerate() {
         values[i] = from_bytes(*b0, *b1, *b2, *b3);
     }

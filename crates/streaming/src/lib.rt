@@ -40,15 +40,14 @@ pub type Emitted = Result<Option<u8>, Refusal>;
 fn next_count(count: u8) -> u8
     ensures { result ≡ min (suc (count % (lag + 2))) (suc lag) }
 {
-    let n = count % COUNTS;
-    if n < FULL { n + 1 } else { FULL }
+    (count % COUNTS + 1).min(FULL)
 }
 
 // The counter of symbols mod 256, after one more of them.
 fn next_turn(turn: u8) -> u8
     ensures { result ≡ suc (turn % turns) % turns }
 {
-    if turn < 255 { turn + 1 } else { 0 }
+    turn.wrapping_add(1)
 }
 
 // One symbol: the survivors go to the history, and the front moves on.

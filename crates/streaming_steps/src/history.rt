@@ -37,6 +37,7 @@ pub fn state_behind(history: &[u8; 2048], row: usize, s: usize) -> usize
 {
     // Lent as a slice, the array tells its length.
     let whole = &history[..];
+    // The row is stepped by hand: it goes backwards round the 128 rows.
     let mut row = row;
     let mut s = s;
     for _ in 0..LAG {
@@ -51,5 +52,5 @@ pub fn top_bit(s: usize) -> u8
     requires { s < 2 ^ k5.width }
     ensures { result ≡ input_into smallest k5 s }
 {
-    if s < 8 { 0 } else { 1 }
+    u8::from(8 <= s)
 }

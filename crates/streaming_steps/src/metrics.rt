@@ -58,11 +58,7 @@ pub fn normalise_after(turn: u8, front: Front) -> Front
     if turn == 255 {
         let mut pm = front.pm;
         subtract_least(&mut pm);
-        return Front {
-            pm,
-            count: front.count,
-            turn: front.turn,
-        };
+        return Front { pm, ..front };
     }
     front
 }
