@@ -12,7 +12,7 @@ ghost use Rattle.steps.specs.Inner.{KeptAsked, Turnable, Turned, Steppable, Step
 ghost use Rattle.steps.specs.Inner.{Decodable, Finds};
 
 use best_path::pair::Wing;
-use trellis::{ConvCode, KeepPattern};
+use trellis::{ConvCode, Selected};
 
 // A kind of decoder: the numbers that it adds, and a turn of a step's loop.
 pub trait Decoder {
@@ -117,16 +117,18 @@ fn step_of<D: Decoder>(
 
 // All steps, from state 0. The survivors of each go to a row of rows; answers state 0's last metric.
 pub fn forward<D: Decoder, R: Readings<D>>(
-    code: ConvCode,
+    chosen: Selected,
     half: usize,
-    keep: KeepPattern,
     readings: &R,
     steps: usize,
     rows: &mut [u8],
 ) -> D::Number
-    requires { Runnable D.held code half keep (R.readings readings.now) steps rows.old }
-    ensures { Runs D.held code (keep_of keep) (2 * half) steps (R.readings readings.now) result (lent rows) }
+    requires { Runnable D.held chosen.code half chosen.keep (R.readings readings.now) steps rows.old }
+    ensures { Runs D.held chosen.code (keep_of chosen.keep) (2 * half) steps (R.readings readings.now) result
+        (lent rows) }
 {
+    let code = chosen.code;
+    let keep = chosen.keep;
     let sent = trellis::sent_by_even(code, half);
     let c0 = sent.c0;
     let c1 = sent.c1;
@@ -157,20 +159,20 @@ pub fn forward<D: Decoder, R: Readings<D>>(
 // All steps and the way back. Answers the score; the word goes to the front of out, the survivors to the front of
 // scratch.
 pub fn decode<D: Decoder, R: Readings<D>>(
-    code: ConvCode,
+    chosen: Selected,
     half: usize,
-    keep: KeepPattern,
     readings: &R,
     info: usize,
     out: &mut [u8],
     scratch: &mut [u8],
 ) -> D::Number
-    requires { Decodable D.held code half keep (R.readings readings.now) info out.old scratch.old }
-    ensures { Finds D.held code (keep_of keep) (2 * half) info (R.readings readings.now) result
+    requires { Decodable D.held chosen.code half chosen.keep (R.readings readings.now) info out.old scratch.old }
+    ensures { Finds D.held chosen.code (keep_of chosen.keep) (2 * half) info (R.readings readings.now) result
         (lent out) (lent scratch) }
 {
+    let code = chosen.code;
     let steps = info + code.width;
-    let score = forward::<D, R>(code, half, keep, readings, steps, scratch);
+    let score = forward::<D, R>(chosen, half, readings, steps, scratch);
     best_path::trace(code, half, scratch, steps, 0, info, out);
     score
 }
