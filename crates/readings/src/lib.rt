@@ -26,11 +26,9 @@ fn decode_readings(
     match f32_answers::first_bad(readings, ready.used) {
         Some(bad) => Err(Refusal::BadReading(bad as u32)),
         None => {
-            let chosen = ready.chosen;
             let score = decode::<Soft, Readings>(
-                chosen.code,
+                ready.chosen,
                 ready.half,
-                chosen.keep,
                 &readings,
                 info,
                 out,

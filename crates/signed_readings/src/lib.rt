@@ -39,11 +39,9 @@ pub fn viterbi_decode_signed_with(
     match first_low(&readings[..ready.used]) {
         Some(low) => Err(Refusal::BadSignedByte(low as u32)),
         None => {
-            let chosen = ready.chosen;
             let score = decode::<Exact, &[i8]>(
-                chosen.code,
+                ready.chosen,
                 ready.half,
-                chosen.keep,
                 &readings,
                 info,
                 out,

@@ -9,27 +9,27 @@ use Rattle.steps.proofs.decode.Reads as decode
 
 pub runs_once :
     (D R N : RattleType) (D_laws R_laws N_laws copied : _) (decoder : Ghosts D.Denot N.Denot)
-    (decoder_dict clones clones_dict source source_dict κs code half keep readings steps rows : _) (r r' left left' : _) →
+    (decoder_dict clones clones_dict source source_dict κs chosen half readings steps rows : _) (r r' left left' : _) →
     forward.Post D R N D_laws R_laws N_laws copied decoder decoder_dict clones clones_dict source source_dict κs
-    (code, (half, (keep, (readings, (steps, (rows, tt)))))) r (code, (half, (keep, (readings, (steps, (left, tt)))))) →
+    (chosen, (half, (readings, (steps, (rows, tt))))) r (chosen, (half, (readings, (steps, (left, tt))))) →
     forward.Post D R N D_laws R_laws N_laws copied decoder decoder_dict clones clones_dict source source_dict κs
-    (code, (half, (keep, (readings, (steps, (rows, tt)))))) r' (code, (half, (keep, (readings, (steps, (left', tt)))))) →
+    (chosen, (half, (readings, (steps, (rows, tt))))) r' (chosen, (half, (readings, (steps, (left', tt))))) →
     (decoder.held.pair.value r ≡ decoder.held.pair.value r') × (left.now ≡ left'.now)
-runs_once D R N D_laws R_laws N_laws copied decoder decoder_dict clones clones_dict source source_dict κs code half keep readings
+runs_once D R N D_laws R_laws N_laws copied decoder decoder_dict clones clones_dict source source_dict κs chosen half readings
     steps rows r r' left left' p q = (p.ran.last ∙ sym q.ran.last, p.ran.survivors ∙ sym q.ran.survivors)
 
 pub decodes_once :
     (D R N : RattleType) (D_laws R_laws N_laws copied : _) (decoder : Ghosts D.Denot N.Denot)
-    (decoder_dict clones clones_dict source source_dict κs code half keep readings info out scratch : _)
+    (decoder_dict clones clones_dict source source_dict κs chosen half readings info out scratch : _)
     (r r' left left' work work' : _) →
     decode.Post D R N D_laws R_laws N_laws copied decoder decoder_dict clones clones_dict source source_dict κs
-    (code, (half, (keep, (readings, (info, (out, (scratch, tt))))))) r
-    (code, (half, (keep, (readings, (info, (left, (work, tt))))))) →
+    (chosen, (half, (readings, (info, (out, (scratch, tt)))))) r
+    (chosen, (half, (readings, (info, (left, (work, tt)))))) →
     decode.Post D R N D_laws R_laws N_laws copied decoder decoder_dict clones clones_dict source source_dict κs
-    (code, (half, (keep, (readings, (info, (out, (scratch, tt))))))) r'
-    (code, (half, (keep, (readings, (info, (left', (work', tt))))))) →
+    (chosen, (half, (readings, (info, (out, (scratch, tt)))))) r'
+    (chosen, (half, (readings, (info, (left', (work', tt)))))) →
     (decoder.held.pair.value r ≡ decoder.held.pair.value r') × (left.now ≡ left'.now) × (work.now ≡ work'.now)
-decodes_once D R N D_laws R_laws N_laws copied decoder decoder_dict clones clones_dict source source_dict κs code half keep readings
+decodes_once D R N D_laws R_laws N_laws copied decoder decoder_dict clones clones_dict source source_dict κs chosen half readings
     info out scratch r r' left left' work work' p q = (
       p.found.scored ∙ sym q.found.scored,
       p.found.output ∙ sym q.found.output,

@@ -12,7 +12,7 @@ ghost use Rattle.steps.specs.Inner.{KeptAsked, Turnable, Turned, Steppable, Step
 ghost use Rattle.steps.specs.Inner.{Decodable, Finds};
 
 use best_path::pair::Wing;
-use trellis::{ConvCode, KeepPattern};
+use trellis::{ConvCode, Planes, Selected};
 
 // A kind of decoder: the numbers that it adds, and a turn of a step's loop.
 pub trait Decoder {
@@ -66,15 +66,14 @@ pub trait Readings<D: Decoder> {
 fn step<D: Decoder>(
     code: ConvCode,
     half: usize,
-    c0: &[u32; 32],
-    c1: &[u32; 32],
+    sent: &Planes,
     a: D::Number,
     b: D::Number,
     pm: &[D::Number; 64],
     next: &mut [D::Number; 64],
     row: &mut [u8],
 )
-    requires { Steppable D.held code half c0.now c1.now a b pm.now row.old }
+    requires { Steppable D.held code half sent.now.c0 sent.now.c1 a b pm.now row.old }
     ensures { Steps D.held code pm.now a b (lent next) (lent row) }
 {
     // Lent as a slice, the array tells its length.
@@ -82,7 +81,7 @@ fn step<D: Decoder>(
     let mut s: u8 = 0;
     for n in 0..half {
         let even = 2 * n;
-        let w = D::turn(c0[n], c1[n], a, b, pm[even], pm[even + 1], s);
+        let w = D::turn(sent.c0[n], sent.c1[n], a, b, pm[even], pm[even + 1], s);
         let low = w.low;
         let high = w.high;
         next[n] = low.met;
@@ -97,39 +96,38 @@ fn step<D: Decoder>(
 fn step_of<D: Decoder>(
     code: ConvCode,
     half: usize,
-    c0: &[u32; 32],
-    c1: &[u32; 32],
+    sent: &Planes,
     a: D::Number,
     b: D::Number,
     pm: &[D::Number; 64],
     next: &mut [D::Number; 64],
     row: &mut [u8],
 )
-    requires { SteppableOf D.held code half c0.now c1.now a b pm.now row.old }
+    requires { SteppableOf D.held code half sent.now.c0 sent.now.c1 a b pm.now row.old }
     ensures { Steps D.held code pm.now a b (lent next) (lent row) }
 {
     if half == 32 {
-        step::<D>(code, 32, c0, c1, a, b, pm, next, row);
+        step::<D>(code, 32, sent, a, b, pm, next, row);
     } else {
-        step::<D>(code, 8, c0, c1, a, b, pm, next, row);
+        step::<D>(code, 8, sent, a, b, pm, next, row);
     }
 }
 
 // All steps, from state 0. The survivors of each go to a row of rows; answers state 0's last metric.
 pub fn forward<D: Decoder, R: Readings<D>>(
-    code: ConvCode,
+    chosen: Selected,
     half: usize,
-    keep: KeepPattern,
     readings: &R,
     steps: usize,
     rows: &mut [u8],
 ) -> D::Number
-    requires { Runnable D.held code half keep (R.readings readings.now) steps rows.old }
-    ensures { Runs D.held code (keep_of keep) (2 * half) steps (R.readings readings.now) result (lent rows) }
+    requires { Runnable D.held chosen.code half chosen.keep (R.readings readings.now) steps rows.old }
+    ensures { Runs D.held chosen.code (keep_of chosen.keep) (2 * half) steps (R.readings readings.now) result
+        (lent rows) }
 {
+    let code = chosen.code;
+    let keep = chosen.keep;
     let sent = trellis::sent_by_even(code, half);
-    let c0 = sent.c0;
-    let c1 = sent.c1;
     let period = keep.period;
     let row0 = keep.row0;
     let row1 = keep.row1;
@@ -146,7 +144,7 @@ pub fn forward<D: Decoder, R: Readings<D>>(
         at = correlation::after(row0[column], at);
         let b = readings.value_at(row1[column], at);
         at = correlation::after(row1[column], at);
-        step_of::<D>(code, half, &c0, &c1, a, b, &pm, &mut next, &mut rows[to..]);
+        step_of::<D>(code, half, &sent, a, b, &pm, &mut next, &mut rows[to..]);
         pm = next;
         to += states;
         column = trellis::next_column(column, period);
@@ -157,20 +155,20 @@ pub fn forward<D: Decoder, R: Readings<D>>(
 // All steps and the way back. Answers the score; the word goes to the front of out, the survivors to the front of
 // scratch.
 pub fn decode<D: Decoder, R: Readings<D>>(
-    code: ConvCode,
+    chosen: Selected,
     half: usize,
-    keep: KeepPattern,
     readings: &R,
     info: usize,
     out: &mut [u8],
     scratch: &mut [u8],
 ) -> D::Number
-    requires { Decodable D.held code half keep (R.readings readings.now) info out.old scratch.old }
-    ensures { Finds D.held code (keep_of keep) (2 * half) info (R.readings readings.now) result
+    requires { Decodable D.held chosen.code half chosen.keep (R.readings readings.now) info out.old scratch.old }
+    ensures { Finds D.held chosen.code (keep_of chosen.keep) (2 * half) info (R.readings readings.now) result
         (lent out) (lent scratch) }
 {
+    let code = chosen.code;
     let steps = info + code.width;
-    let score = forward::<D, R>(code, half, keep, readings, steps, scratch);
+    let score = forward::<D, R>(chosen, half, readings, steps, scratch);
     best_path::trace(code, half, scratch, steps, 0, info, out);
     score
 }

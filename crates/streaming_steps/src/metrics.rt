@@ -6,7 +6,7 @@ ghost use Rattle.streaming_steps.specs.Steps.{least_of, lowered, normalised};
 ghost use Rattle.streaming_steps.specs.Inner.{SelectsNew, NormalisedAfter};
 
 use crate::Front;
-use crate::sent::{SENT0, SENT1};
+use crate::sent::SENT;
 use best_path::select::better_of;
 use butterflies::smallest::{MARK, Smallest};
 use symbols::forward_pass::step;
@@ -16,9 +16,8 @@ pub fn select(re: f32, im: f32, pm: &[f32; 16], next: &mut [f32; 16], froms: &mu
     requires { 2 ^ k5.width ≤ length froms.old }
     ensures { SelectsNew pm.now re im (lent next) (lent froms) }
 {
-    let c0 = SENT0;
-    let c1 = SENT1;
-    step(trellis::conv_code(0), &c0, &c1, re, im, pm, next, froms);
+    let sent = SENT;
+    step(trellis::conv_code(0), &sent, re, im, pm, next, froms);
 }
 
 // The least reachable metric, and the mark where none is reachable.

@@ -10,7 +10,7 @@ ghost use Rattle.symbols.specs.Inner.{components_of, Counted, symbol_at, Runnabl
 use crate::phasors::{Phasor, cost_of_pair, opposite, phasor_of, prices_of};
 use best_path::select::butterfly;
 use butterflies::smallest::{MARK, Smallest};
-use trellis::ConvCode;
+use trellis::{ConvCode, Planes};
 
 // Half of the states, and all of them.
 pub const HALF: usize = 8;
@@ -23,15 +23,14 @@ pub const STATES: usize = 2 * HALF;
 // the loop.
 pub fn step(
     code: ConvCode,
-    c0: &[u32; 32],
-    c1: &[u32; 32],
+    sent: &Planes,
     re: f32,
     im: f32,
     pm: &[f32; STATES],
     next: &mut [f32; STATES],
     row: &mut [u8],
 )
-    requires { Steppable code c0.now c1.now row.old }
+    requires { Steppable code sent.now.c0 sent.now.c1 row.old }
     ensures { Selects code pm.now re im (lent next) (lent row) }
 {
     let prices = prices_of(re, im);
@@ -40,8 +39,8 @@ pub fn step(
     let whole = &next[..];
     let mut s: u8 = 0;
     for n in 0..HALF {
-        let x = cost_of_pair(c0[n], c1[n], prices);
-        let y = cost_of_pair(c0[n], c1[n], turned);
+        let x = cost_of_pair(sent.c0[n], sent.c1[n], prices);
+        let y = cost_of_pair(sent.c0[n], sent.c1[n], turned);
         let even = 2 * n;
         let w = butterfly::<Smallest>(pm[even], pm[even + 1], s, x, y);
         let low = w.low;
@@ -149,8 +148,6 @@ pub fn forward(code: ConvCode, symbols: Symbols, count: usize, rows: &mut [u8]) 
     ensures { Runs code (components_of symbols.entry) count result (lent rows) }
 {
     let sent = trellis::sent_by_even(code, HALF);
-    let c0 = sent.c0;
-    let c1 = sent.c1;
     let mut pm = [MARK; STATES];
     pm[0] = 0.0;
     let mut next = pm;
@@ -160,8 +157,7 @@ pub fn forward(code: ConvCode, symbols: Symbols, count: usize, rows: &mut [u8]) 
         let symbol = symbol_at(symbols, t);
         step(
             code,
-            &c0,
-            &c1,
+            &sent,
             symbol.re,
             symbol.im,
             &pm,

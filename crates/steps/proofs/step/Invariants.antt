@@ -5,7 +5,7 @@ use Rattle.steps.proofs.step.Given as goal
 
 abbrev pub invariant-loop-n : goal.invariant-loop-n
 invariant-loop-n g l =
-    TurnsHeld g.D.Decoder.held l.half l.c0 l.c1 l.a l.b l.pm l.initial.next l.initial.row l.next l.row l.s l.n
+    TurnsHeld g.D.Decoder.held l.half l.sent.c0 l.sent.c1 l.a l.b l.pm l.initial.next l.initial.row l.next l.row l.s l.n
 
 abbrev pub decreases-loop-n : goal.decreases-loop-n
 decreases-loop-n g l = l.half - l.n

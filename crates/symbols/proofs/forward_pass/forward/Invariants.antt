@@ -5,4 +5,4 @@ use Rattle.symbols.proofs.forward_pass.forward.Given as goal
 
 abbrev pub invariant-loop-t : goal.invariant-loop-t
 invariant-loop-t l =
-    Forwarded l.code (components_of l.symbols) l.count l.initial.rows l.c0 l.c1 l.rows l.pm l.to l.t
+    Forwarded l.code (components_of l.symbols) l.count l.initial.rows l.sent.c0 l.sent.c1 l.rows l.pm l.to l.t
