@@ -95,31 +95,43 @@ fn steps<W: Write>(to: &mut W, line: &[u8], from: usize, start: Coders) -> io::R
     Ok(coders)
 }
 
+// What a step calls, again and again but for an opening and a closing, which are of so many.
+#[derive(Clone, Copy)]
+enum Step {
+    // Of the writer.
+    Opening(usize),
+    Closing(usize),
+    PushByte,
+    NextBit,
+    // Of the reader.
+    PushBit,
+    PopChar,
+}
+
 // `oN`, `cN`: an opening, a closing. `bBYTES`, `tN`: bytes written, bits taken out. `iBYTES`, `pN`: bits put in,
-// characters taken out.
+// characters taken out. No call has another step.
 fn step<W: Write>(to: &mut W, coders: Coders, text: &[u8]) -> io::Result<Coders> {
-    let Some((&letter, rest)) = text.split_first() else {
+    let Some((letter, rest)) = text.split_first() else {
         return Ok(coders);
     };
     let mut values: [u8; SHORT] = lent();
-    match letter {
-        b'b' | b'i' => {
-            let n = fill(rest, &mut values);
-            calls(to, coders, letter, &values[..n])
-        }
-        b't' | b'p' => {
-            let n = room(rest, SHORT);
-            calls(to, coders, letter, &values[..n])
-        }
-        _ => run(to, coders, letter, number(rest) as usize),
-    }
+    let (step, count) = match letter {
+        b'o' => (Step::Opening(number(rest) as usize), 1),
+        b'c' => (Step::Closing(number(rest) as usize), 1),
+        b'b' => (Step::PushByte, fill(rest, &mut values)),
+        b't' => (Step::NextBit, room(rest, SHORT)),
+        b'i' => (Step::PushBit, fill(rest, &mut values)),
+        b'p' => (Step::PopChar, room(rest, SHORT)),
+        _ => return Ok(coders),
+    };
+    calls(to, coders, step, &values[..count])
 }
 
-// A call for each value, and an answer printed for each. What takes out needs no value.
-fn calls<W: Write>(to: &mut W, start: Coders, letter: u8, values: &[u8]) -> io::Result<Coders> {
+// A call for each value, and an answer printed for each. Only a byte or a bit that is put is a value that counts.
+fn calls<W: Write>(to: &mut W, start: Coders, step: Step, values: &[u8]) -> io::Result<Coders> {
     let mut coders = start;
     for &value in values {
-        let called = call(coders, letter, value);
+        let called = call(coders, step, value);
         print_number(to, called.answer, 1)?;
         coders = called.coders;
     }
@@ -133,38 +145,33 @@ struct Called {
     coders: Coders,
 }
 
-fn call(coders: Coders, letter: u8, value: u8) -> Called {
-    match letter {
-        b'b' => {
+fn call(coders: Coders, step: Step, value: u8) -> Called {
+    match step {
+        Step::Opening(n) => {
+            let after = coders.encoder.push_preamble(n);
+            coders.wrote(put_said(after.answer), after.coder)
+        }
+        Step::Closing(n) => {
+            let after = coders.encoder.push_postamble(n);
+            coders.wrote(put_said(after.answer), after.coder)
+        }
+        Step::PushByte => {
             let after = coders.encoder.push_byte(value);
             coders.wrote(put_said(after.answer), after.coder)
         }
-        b't' => {
+        Step::NextBit => {
             let after = coders.encoder.next_bit();
             coders.wrote(taken_said(after.answer), after.coder)
         }
-        b'i' => {
+        Step::PushBit => {
             let after = coders.decoder.push_bit(value);
             coders.heard(put_said(after.answer), after.coder)
         }
-        _ => {
+        Step::PopChar => {
             let after = coders.decoder.pop_char();
             coders.heard(taken_said(after.answer), after.coder)
         }
     }
-}
-
-// An opening or a closing.
-fn run<W: Write>(to: &mut W, coders: Coders, letter: u8, n: usize) -> io::Result<Coders> {
-    let after = match letter {
-        b'o' => coders.encoder.push_preamble(n),
-        _ => coders.encoder.push_postamble(n),
-    };
-    print_number(to, put_said(after.answer), 1)?;
-    Ok(Coders {
-        encoder: after.coder,
-        ..coders
-    })
 }
 
 impl Coders {

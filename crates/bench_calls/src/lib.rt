@@ -49,6 +49,7 @@ fn stream(soft: &[f32], out: &mut [u8]) -> Result<usize, Refusal>
         return Err(Refusal::ShortOutput);
     }
     let mut d = StreamingViterbi::new();
+    // Counted by hand: how many bits come is seen as they come.
     let mut written = 0;
     for symbol in soft.chunks_exact(2) {
         let fed = d.feed_symbol(symbol[0], symbol[1]);
@@ -72,11 +73,7 @@ pub extern "C" fn timed_stream(soft: &[f32], out: &mut [u8]) -> u64
 fn emitted_number(answer: Emitted) -> u64
     ensures { EmitNumbers result (emitted_said answer) }
 {
-    match answer {
-        Ok(Some(bit)) => bit as u64,
-        Ok(None) => 2,
-        Err(r) => refusal::refused_number(r),
-    }
+    answer.map_or_else(refusal::refused_number, |bit| bit.map_or(2, u64::from))
 }
 
 // The streaming decoder in place: one symbol.
@@ -99,10 +96,7 @@ pub extern "C" fn timed_flush(d: &mut StreamingViterbi, out: &mut [u8]) -> u64
 fn letter_number(letter: Option<u8>) -> u64
     ensures { result ≡ letter_number (letter_said letter) }
 {
-    match letter {
-        Some(b) => b as u64,
-        None => 256,
-    }
+    letter.map_or(256, u64::from)
 }
 
 // The Varicode lookup.

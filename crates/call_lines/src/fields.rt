@@ -70,19 +70,18 @@ fn split_once(text: &[u8], at: u8) -> Option<(&[u8], &[u8])> {
 fn read_pairs(text: &[u8], into: &mut [u8], start: usize) -> Option<usize>
     ensures { IfSome result (λ end. start ≤ end) }
 {
-    let mut end = start;
-    for pair in text.chunks(2) {
+    let end = start.checked_add(text.len() / 2)?;
+    if text.len() % 2 != 0 || LONG < end {
+        return None;
+    }
+    for (place, pair) in (start..end).zip(text.chunks_exact(2)) {
         let [high, low] = pair else {
             return None;
         };
-        if end >= LONG {
-            return None;
-        }
         let byte = 16 * digit(*high)? + digit(*low)?;
-        if end < into.len() {
-            into[end] = byte;
+        if place < into.len() {
+            into[place] = byte;
         }
-        end += 1;
     }
     Some(end)
 }

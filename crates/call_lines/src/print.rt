@@ -7,7 +7,8 @@ use text::Line;
 // What is printed goes by way of a text of this size, so that a long field takes few writes.
 const TEXT: usize = 4096;
 
-// A writer that gathers what is printed, and hands it on once the text is full, or by `flush`.
+// A writer that gathers what is printed, and hands it on once the text is full, or by `flush`. It is not std's
+// `BufWriter`, whose buffer is allocated: the program has no heap.
 #[derive(Drop)]
 pub struct Printer<W> {
     to: W,

@@ -146,5 +146,5 @@ pub fn call_of(line: &[u8]) -> Option<Call> {
         ),
         _ => return None,
     };
-    if fits(line, kinds) { Some(call) } else { None }
+    fits(line, kinds).then_some(call)
 }

@@ -92,8 +92,5 @@ fn decoded_line(input: &[u8]) -> Result<Answer, Refusal>
 pub fn answer(input: &[u8]) -> Answer
     ensures { AnswersInput input.now result }
 {
-    match decoded_line(input) {
-        Ok(line) => line,
-        Err(r) => refused_line(r),
-    }
+    decoded_line(input).unwrap_or_else(refused_line)
 }
