@@ -95,9 +95,9 @@ fn steps<W: Write>(to: &mut W, line: &[u8], from: usize, start: Coders) -> io::R
     Ok(coders)
 }
 
-// What a step calls, again and again but for an opening and a closing, which are of so many.
+// What a step calls.
 #[derive(Clone, Copy)]
-enum Step {
+enum Kind {
     // Of the writer.
     Opening(usize),
     Closing(usize),
@@ -115,23 +115,23 @@ fn step<W: Write>(to: &mut W, coders: Coders, text: &[u8]) -> io::Result<Coders>
         return Ok(coders);
     };
     let mut values: [u8; SHORT] = lent();
-    let (step, count) = match letter {
-        b'o' => (Step::Opening(number(rest) as usize), 1),
-        b'c' => (Step::Closing(number(rest) as usize), 1),
-        b'b' => (Step::PushByte, fill(rest, &mut values)),
-        b't' => (Step::NextBit, room(rest, SHORT)),
-        b'i' => (Step::PushBit, fill(rest, &mut values)),
-        b'p' => (Step::PopChar, room(rest, SHORT)),
+    let (kind, count) = match letter {
+        b'o' => (Kind::Opening(number(rest) as usize), 1),
+        b'c' => (Kind::Closing(number(rest) as usize), 1),
+        b'b' => (Kind::PushByte, fill(rest, &mut values)),
+        b't' => (Kind::NextBit, room(rest, SHORT)),
+        b'i' => (Kind::PushBit, fill(rest, &mut values)),
+        b'p' => (Kind::PopChar, room(rest, SHORT)),
         _ => return Ok(coders),
     };
-    calls(to, coders, step, &values[..count])
+    calls(to, coders, kind, &values[..count])
 }
 
 // A call for each value, and an answer printed for each. Only a byte or a bit that is put is a value that counts.
-fn calls<W: Write>(to: &mut W, start: Coders, step: Step, values: &[u8]) -> io::Result<Coders> {
+fn calls<W: Write>(to: &mut W, start: Coders, kind: Kind, values: &[u8]) -> io::Result<Coders> {
     let mut coders = start;
     for &value in values {
-        let called = call(coders, step, value);
+        let called = call(coders, kind, value);
         print_number(to, called.answer, 1)?;
         coders = called.coders;
     }
@@ -145,29 +145,29 @@ struct Called {
     coders: Coders,
 }
 
-fn call(coders: Coders, step: Step, value: u8) -> Called {
-    match step {
-        Step::Opening(n) => {
+fn call(coders: Coders, kind: Kind, value: u8) -> Called {
+    match kind {
+        Kind::Opening(n) => {
             let after = coders.encoder.push_preamble(n);
             coders.wrote(put_said(after.answer), after.coder)
         }
-        Step::Closing(n) => {
+        Kind::Closing(n) => {
             let after = coders.encoder.push_postamble(n);
             coders.wrote(put_said(after.answer), after.coder)
         }
-        Step::PushByte => {
+        Kind::PushByte => {
             let after = coders.encoder.push_byte(value);
             coders.wrote(put_said(after.answer), after.coder)
         }
-        Step::NextBit => {
+        Kind::NextBit => {
             let after = coders.encoder.next_bit();
             coders.wrote(taken_said(after.answer), after.coder)
         }
-        Step::PushBit => {
+        Kind::PushBit => {
             let after = coders.decoder.push_bit(value);
             coders.heard(put_said(after.answer), after.coder)
         }
-        Step::PopChar => {
+        Kind::PopChar => {
             let after = coders.decoder.pop_char();
             coders.heard(taken_said(after.answer), after.coder)
         }
