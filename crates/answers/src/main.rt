@@ -74,7 +74,7 @@ fn answer_lines<W: Write>(to: &mut W, text: &[u8]) -> io::Result<usize>
 }
 
 // Reads to the end of the input, and answers each line. Nothing says that an input ends, so the loop has as many turns
-// as no run uses up.
+// as no run uses up. The text lies in an array, and how much of it is kept beside it: the program has no heap.
 fn answer_all<R: Read, W: Write>(from: &mut R, to: &mut W) -> io::Result<()> {
     let mut text = [0; ROOM];
     let mut kept = 0;

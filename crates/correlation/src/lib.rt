@@ -39,7 +39,7 @@ pub fn after(column: u8, at: usize) -> usize
 }
 
 // What a call that earns none of the refusals 1 to 5 comes to before its readings are looked at: the coding that it
-// selects, half of the states, and how many of the readings are used.
+// selects, half of the states, which is handed on so that it is computed once, and how many of the readings are used.
 #[derive(Clone, Copy)]
 pub struct Prepared {
     pub chosen: Selected,

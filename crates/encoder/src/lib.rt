@@ -23,7 +23,8 @@ fn input_at(bits: &[u8], t: usize) -> u32
     }
 }
 
-// Writes a coded bit at `at` if its column keeps it. Answers the place after it.
+// Writes a coded bit at `at` if its column keeps it. Answers the place after it, which so goes on by what the pattern
+// keeps.
 fn put(column: u8, bit: u8, at: usize, out: &mut [u8]) -> usize
     requires { RoomFor (kept_by column bit) at out.old }
     ensures { PutsAt (kept_by column bit) at result (lent out) }
@@ -79,7 +80,7 @@ fn encode_at(code: u8, rate: u8, chosen: Selected, bits: &[u8], steps: usize, ou
 }
 
 // Refusals 1 to 3, which every call with a code, a rate and an info count decides first. The limit on info bits is the
-// caller's.
+// caller's. Its clause is of the numbers, as that of `choose` is, which turns them again.
 #[tactic(auto, using(crate::proofs::Checks::choices))]
 pub fn refused_choice(code: u8, rate: u8, info: usize, limit: usize) -> Result<(), Refusal>
     ensures { Decides limit code rate info result }

@@ -12,7 +12,7 @@ use f32s::Readings;
 use refusal::Refusal;
 
 // The answer of the block decoder of readings as the one number that a door returns: the word stands in the lent
-// output, and its score is carried here.
+// output, and its score is carried here. That of whole scores is in a crate of its own, which stands on no float.
 pub fn word_number(answer: Result<f32, Refusal>) -> u64
     ensures { ScoreNumbers result (answer_said answer) }
 {

@@ -26,6 +26,8 @@ pub type BitQueue = Queue<BITS>;
 
 pub type CharQueue = Queue<CHARS>;
 
+// `Size ROOM` is asked by each function, of the type's number: a ghost field that had it would forbid `..self`, and
+// each law that gives a queue's fields back would have to show it.
 impl<const ROOM: usize> Queue<ROOM> {
     pub fn new() -> Self
         requires { Size ROOM }

@@ -20,7 +20,7 @@ pub const STATES: usize = 2 * HALF;
 // One step of a symbol: the new metrics go to next, the survivors to the front of row. Survivor numbers
 // come from a counter of their own: made from n they keep the loop from being vectorised well. It is not `steps::step`,
 // whose turn makes what a branch brings from two readings: here that is picked from prices, which are made once, before
-// the loop.
+// the loop. Its turns go by number, as those there.
 pub fn step(
     code: ConvCode,
     sent: &Planes,

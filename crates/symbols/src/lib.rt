@@ -15,7 +15,7 @@ use forward_pass::{HALF, STATES, Symbols, forward};
 use refusal::Refusal;
 
 // All symbols and the way back. The word goes to the front of out, the survivors to the front of scratch. The code is
-// chosen here, where both entries come together, so that it is a constant in the loop.
+// chosen here, where both entries come together, by K5's number, so that it is a constant in the loop.
 fn decode(symbols: Symbols, count: usize, out: &mut [u8], scratch: &mut [u8])
     requires { Decodable k5 (components_of symbols) count out.old scratch.old }
     ensures { Finds k5 (components_of symbols.entry) count (lent out) (lent scratch) }

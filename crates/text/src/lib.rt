@@ -27,6 +27,7 @@ impl<const ROOM: usize> Model for Line<ROOM> {
     ghost invariant = { λ l. Written ROOM l.len l.bytes };
 }
 
+// What fits is asked by each `put`: it is about a line and what is put to it, and no type of either could say it.
 impl<const ROOM: usize> Line<ROOM> {
     pub fn new() -> Self
         ensures { result ≡ [] }

@@ -249,7 +249,8 @@ fn parity(w: u32, taps: u32) -> u8
     ((w & taps).count_ones() % 2) as u8
 }
 
-// The input bit above the register.
+// The input bit above the register. A state and an input of a code are three arguments here and below, since they are
+// made anew for each call, and a struct of them would be taken apart at once.
 fn window_of(code: ConvCode, s: u32, b: u32) -> u32
     requires { Branch code s b }
     ensures { result ≡ window code s b }

@@ -6,7 +6,7 @@ ghost use Rattle.varicode_words.specs.Inner.{values, byte_in, Right};
 // How many values there are: a word has at most ten bits.
 pub const VALUES: usize = 1024;
 
-// The mark: the entry of a value that is no word.
+// The mark: the entry of a value that is no word. A byte more for each, as an `Option` has, would double the table.
 const NO_WORD: u8 = 0xff;
 
 // The byte of each value, or the mark. It is a static, which is there before the call: a constant array would be stored
