@@ -16,8 +16,7 @@ pub fn select(re: f32, im: f32, pm: &[f32; 16], next: &mut [f32; 16], froms: &mu
     requires { 2 ^ k5.width ≤ length froms.old }
     ensures { SelectsNew pm.now re im (lent next) (lent froms) }
 {
-    let sent = SENT;
-    step(trellis::conv_code(0), &sent, re, im, pm, next, froms);
+    step(trellis::conv_code(0), &SENT, re, im, pm, next, froms);
 }
 
 // The least reachable metric, and the mark where none is reachable.

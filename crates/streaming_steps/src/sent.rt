@@ -1,9 +1,9 @@
-// What K5 sends from its even states on the input 0, as tables: a step with constants is faster than one with
+// What K5 sends from its even states on the input 0, as tables: a step with these is faster than one with
 // tables that are made for each symbol.
 use trellis::Planes;
 
 // The first coded bit, by half the state, and the second.
-pub const SENT: Planes = Planes {
+pub static SENT: Planes = Planes {
     c0: [
         0, 0, 1, 1, 0, 0, 1, 1, 0, 0, 0, 0, 0, 0, 0, 0, 0, 0, 0, 0, 0, 0, 0, 0, 0, 0, 0, 0, 0, 0,
         0, 0,
