@@ -21,8 +21,8 @@ pub fn keep(pm: &[f32; 16], froms: &[u8; 16], at: usize, history: &mut [u8; 2048
     requires { RowAt at }
     ensures { Keeps pm.now froms.now at (lent history) }
 {
-    // Lent as slices, the arrays tell their lengths. By index: of what is written through a zip a proof knows the length
-    // and no content.
+    // Lent as slices, the arrays tell their lengths. By index: of what is written through a zip a proof knows the
+    // length and no content.
     let mets = &pm[..];
     let news = &froms[..];
     let whole = &history[..];
