@@ -10,13 +10,21 @@ use crate::sent::SENT;
 use best_path::select::better_of;
 use butterflies::smallest::{MARK, Smallest};
 use symbols::forward_pass::step;
+use symbols::phasors::Phasor;
 
 // One symbol: the new metrics go to next, the survivors to the front of froms.
 pub fn select(re: f32, im: f32, pm: &[f32; 16], next: &mut [f32; 16], froms: &mut [u8])
     requires { 2 ^ k5.width ≤ length froms.old }
     ensures { SelectsNew pm.now re im (lent next) (lent froms) }
 {
-    step(trellis::conv_code(0), &SENT, re, im, pm, next, froms);
+    step(
+        trellis::conv_code(0),
+        &SENT,
+        Phasor { re, im },
+        pm,
+        next,
+        froms,
+    );
 }
 
 // The least reachable metric, and the mark where none is reachable.

@@ -25,10 +25,10 @@ decodes_hard_once κs bits out scratch = both_once Says says_tell _ _ _ _ _
 -- ---- parts
 
 pub selects_once :
-    (κs code sent re im pm next row : _) →
+    (κs code sent symbol pm next row : _) →
     OnceBoth (λ r next' row'.
-    step.Post κs (code, (sent, (re, (im, (pm, (next, (row, tt))))))) r (code, (sent, (re, (im, (pm, (next', (row', tt))))))))
-selects_once κs code sent re im pm next row r r' n n' w w' p q = (refl, p.mets ∙ sym q.mets, p.froms ∙ sym q.froms)
+    step.Post κs (code, (sent, (symbol, (pm, (next, (row, tt)))))) r (code, (sent, (symbol, (pm, (next', (row', tt)))))))
+selects_once κs code sent symbol pm next row r r' n n' w w' p q = (refl, p.mets ∙ sym q.mets, p.froms ∙ sym q.froms)
 
 pub first_least-once : (κs pm : _) → Once (λ (r : ℕ). first_least.Post κs (pm, tt) r (pm, tt))
 first_least-once κs pm r r' p q = p ∙ sym q

@@ -24,16 +24,15 @@ pub const STATES: usize = 2 * HALF;
 pub fn step(
     code: ConvCode,
     sent: &Planes,
-    re: f32,
-    im: f32,
+    symbol: Phasor,
     pm: &[f32; STATES],
     next: &mut [f32; STATES],
     row: &mut [u8],
 )
     requires { Steppable code sent.now.c0 sent.now.c1 row.old }
-    ensures { Selects code pm.now re im (lent next) (lent row) }
+    ensures { Selects code pm.now symbol.re symbol.im (lent next) (lent row) }
 {
-    let prices = prices_of(re, im);
+    let prices = prices_of(symbol);
     let turned = opposite(prices);
     // Lent as a slice, the array tells its length.
     let whole = &next[..];
@@ -155,15 +154,7 @@ pub fn forward(code: ConvCode, symbols: Symbols, count: usize, rows: &mut [u8]) 
     // By number: pairs of components and pairs of bits are two types of iterator.
     for t in 0..count {
         let symbol = symbol_at(symbols, t);
-        step(
-            code,
-            &sent,
-            symbol.re,
-            symbol.im,
-            &pm,
-            &mut next,
-            &mut rows[to..],
-        );
+        step(code, &sent, symbol, &pm, &mut next, &mut rows[to..]);
         pm = next;
         to += STATES;
     }

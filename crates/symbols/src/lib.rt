@@ -9,7 +9,7 @@ ghost use Rattle.symbols.specs.Said.{room_for};
 ghost use Rattle.symbols.specs.Promise.{DecodesSymbols, DecodesHard};
 
 pub mod forward_pass;
-mod phasors;
+pub mod phasors;
 
 use forward_pass::{HALF, STATES, Symbols, forward};
 use refusal::Refusal;

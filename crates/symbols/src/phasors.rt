@@ -31,11 +31,11 @@ pub fn phasor_of(b0: u8, b1: u8) -> Phasor
 }
 
 // How far a symbol is from a phasor, squared.
-fn cost(re: f32, im: f32, at: Phasor) -> f32
-    ensures { result ≡ cost re im at }
+fn cost(symbol: Phasor, at: Phasor) -> f32
+    ensures { result ≡ cost symbol.re symbol.im at }
 {
-    let x = re - at.re;
-    let y = im - at.im;
+    let x = symbol.re - at.re;
+    let y = symbol.im - at.im;
     x * x + y * y
 }
 
@@ -48,14 +48,14 @@ pub struct Prices {
     pub of_11: f32,
 }
 
-pub fn prices_of(re: f32, im: f32) -> Prices
-    ensures { Priced re im result }
+pub fn prices_of(symbol: Phasor) -> Prices
+    ensures { Priced symbol.re symbol.im result }
 {
     Prices {
-        of_00: cost(re, im, PHASORS[0]),
-        of_01: cost(re, im, PHASORS[1]),
-        of_10: cost(re, im, PHASORS[2]),
-        of_11: cost(re, im, PHASORS[3]),
+        of_00: cost(symbol, PHASORS[0]),
+        of_01: cost(symbol, PHASORS[1]),
+        of_10: cost(symbol, PHASORS[2]),
+        of_11: cost(symbol, PHASORS[3]),
     }
 }
 

@@ -3,4 +3,4 @@ use Rattle.symbols.proofs.Turn.{Turns}
 use Rattle.symbols.proofs.forward_pass.step.Given as goal
 
 abbrev pub invariant-loop-n : goal.invariant-loop-n
-invariant-loop-n l = Turns l.sent.c0 l.sent.c1 l.re l.im l.pm l.initial.next l.initial.row l.next l.row l.s l.n
+invariant-loop-n l = Turns l.sent.c0 l.sent.c1 l.fn.symbol.re l.fn.symbol.im l.pm l.initial.next l.initial.row l.next l.row l.s l.n
