@@ -51,7 +51,7 @@ fn next_turn(turn: u8) -> u8
 }
 
 // One symbol: the survivors go to the history, and the front moves on. The components stay two numbers, as document
-// 01's calls have them, down to the prices that are made of them.
+// 01's calls have them, down to the step, which takes a phasor.
 fn advance(front: Front, history: &mut [u8; 2048], re: f32, im: f32) -> Front
     ensures { Advances front re im result (lent history) }
 {
