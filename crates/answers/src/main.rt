@@ -61,7 +61,8 @@ fn answer<W: Write>(to: &mut W, line: &[u8]) -> io::Result<()> {
     to.write_all(b"\n")
 }
 
-// Each whole line of a text. Answers how many bytes are left behind them: the front of a line.
+// Each whole line of a text. Answers how many bytes are left behind them, the front of a line: so it goes on by what is
+// left, of which an iterator over lines would not tell.
 fn answer_lines<W: Write>(to: &mut W, text: &[u8]) -> io::Result<usize>
     ensures { IfOk result (λ left. left ≤ length text.now) }
 {

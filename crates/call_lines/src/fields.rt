@@ -66,7 +66,8 @@ fn split_once(text: &[u8], at: u8) -> Option<(&[u8], &[u8])> {
     Some((&text[..place], &text[place + 1..]))
 }
 
-// Puts bytes of two digits each into a room, from `start` on and as far as it goes, and answers where they end.
+// Puts bytes of two digits each into a room, from `start` on and as far as it goes, and answers where they end. By
+// place: digits behind the room are read too, where a zip with it would stop.
 fn read_pairs(text: &[u8], into: &mut [u8], start: usize) -> Option<usize>
     ensures { IfSome result (λ end. start ≤ end) }
 {
@@ -101,7 +102,8 @@ fn repeat(into: &mut [u8], start: usize, end: usize, count: usize) -> Option<usi
     Some(last)
 }
 
-// Puts the bytes that a text spells at the front of a room, as many as it has room for, and answers how many there are.
+// Puts the bytes that a text spells at the front of a room, as many as it has room for, and answers how many there are,
+// which a part tells as it is read.
 fn read_bytes(text: &[u8], into: &mut [u8]) -> Option<usize> {
     match text {
         [] => return None,
