@@ -1,7 +1,7 @@
 // A line's fields, and the numbers and bytes that they spell in lower-case hex.
 //
 // Bytes are two digits each, or `-` for none. `(PIECE*COUNT)` among them is a piece again and again, to COUNT bytes.
-ghost use Rattle.std.specs.Prelude.{◌≡◌, ◌≤◌, ◌<◌, length, IfSome};
+ghost use Rattle.std.specs.Prelude.{◌≡◌, ◌≤◌, ◌<◌, length, min, IfSome};
 
 // The most bytes of info, of bits and of an output: 16,384 info bits make 32,780 coded ones.
 pub const SHORT: usize = 32800;
@@ -37,7 +37,9 @@ fn digit(c: u8) -> Option<u8>
 }
 
 // The number that one to `most` digits spell, and no more than sixteen.
-pub fn parse(text: &[u8], most: usize) -> Option<u64> {
+pub fn parse(text: &[u8], most: usize) -> Option<u64>
+    ensures { IfSome result (λ n. (0 < length text.now) × (length text.now ≤ min most 16)) }
+{
     if text.is_empty() || most.min(16) < text.len() {
         return None;
     }

@@ -1,5 +1,7 @@
 // How an answer's fields are printed: numbers and bytes in lower-case hex, one space before each field. They go to any
 // writer, and an error is the writer's: what was printed may then have gone to it in part.
+ghost use Rattle.std.specs.Prelude.{◌≡◌, []};
+
 use std::io;
 use std::io::Write;
 use text::Line;
@@ -16,7 +18,10 @@ pub struct Printer<W> {
 }
 
 impl<W: Write> Printer<W> {
-    pub fn new(to: W) -> Self {
+    pub fn new(to: W) -> Self
+        ensures text { result.text ≡ [] }
+        ensures to { result.to ≡ to }
+    {
         Printer {
             to,
             text: Line::new(),

@@ -1,4 +1,6 @@
 // Which lines are calls: how many fields a letter's line has, and what each of them spells.
+ghost use Rattle.std.specs.Prelude.{◌<◌, length, IfSome};
+
 use crate::fields::{LONG, SHORT, parse, size};
 
 // The most components of a line: one symbol more than 16,384, and an odd one.
@@ -101,11 +103,17 @@ fn fits(line: &[u8], kinds: &[Kind]) -> bool {
 }
 
 // The call that a line is, where it is one.
-pub fn call_of(line: &[u8]) -> Option<Call> {
+pub fn call_of(line: &[u8]) -> Option<Call>
+    ensures { IfSome result (λ call. 0 < length line.now) }
+{
     use Kind::{Byte, Bytes, Components, Exactly, Flag, Length, Number, Steps, Word};
-    let Some([letter]) = line.split(|b| *b == b' ').next() else {
+    let [letter, behind @ ..] = line else {
         return None;
     };
+    // The letter is the whole first field.
+    if !matches!(behind, [] | [b' ', ..]) {
+        return None;
+    }
     let (call, kinds): (Call, &[Kind]) = match letter {
         b'e' => (Call::Punctured, &[Byte, Byte, Bytes(SHORT), Length(SHORT)]),
         b'p' => (Call::Plain, &[Bytes(SHORT), Length(SHORT)]),

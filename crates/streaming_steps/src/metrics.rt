@@ -9,8 +9,8 @@ use crate::Front;
 use crate::sent::SENT;
 use best_path::select::better_of;
 use butterflies::smallest::{MARK, Smallest};
+use symbols::Phasor;
 use symbols::forward_pass::step;
-use symbols::phasors::Phasor;
 
 // One symbol: the new metrics go to next, the survivors to the front of froms.
 pub fn select(re: f32, im: f32, pm: &[f32; 16], next: &mut [f32; 16], froms: &mut [u8])

@@ -9,9 +9,10 @@ ghost use Rattle.symbols.specs.Said.{room_for};
 ghost use Rattle.symbols.specs.Promise.{DecodesSymbols, DecodesHard};
 
 pub mod forward_pass;
-pub mod phasors;
+mod phasors;
 
 use forward_pass::{HALF, STATES, Symbols, forward};
+pub use phasors::Phasor;
 use refusal::Refusal;
 
 // All symbols and the way back. The word goes to the front of out, the survivors to the front of scratch. The code is
