@@ -1,5 +1,5 @@
 -- Numbers and words as the program writes them, in ASCII. Definitions only.
-use Rattle.std.specs.Prelude.{cond, List, [], ◌∷◌, ◌++◌, map, drop, replicate, ◌≡◌}
+use Rattle.std.specs.Prelude.{cond, List, [], ◌∷◌, ◌++◌, map, drop, length, replicate, ◌≡◌}
 use Rattle.std.specs.Prelude.{ℕ, zero, suc, ◌+◌, ◌-◌, ◌/◌, ◌%◌, ◌≤◌, ltb, eqb}
 
 -- 0 to 9, then A to F
@@ -30,5 +30,6 @@ word_text (b ∷ bits) = map bit_text (b ∷ bits)
 
 -- a line's bytes: its text within the room, and zeros behind it
 pub record Written (room len : ℕ) (bytes : List ℕ) : Type 0 where
+  pub sized : length bytes ≡ room
   pub within : len ≤ room
   pub behind : drop len bytes ≡ replicate (room - len) 0

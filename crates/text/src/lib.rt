@@ -9,22 +9,27 @@ ghost use Rattle.text.specs.Text.{digit, bit_text, word_text, hex_digits, decima
 
 use std::marker::Model;
 
-// At most ROOM bytes, and zeros behind them. Clauses see those that were written.
-#[derive(Drop)]
+// At most ROOM bytes, and zeros behind them. Clauses see those that were written, which fix the line.
+#[derive(Clone, Copy)]
 pub struct Line<const ROOM: usize> {
     bytes: [u8; ROOM],
     len: usize,
 }
 
 impl<const ROOM: usize> Model for Line<ROOM> {
-    ghost use Rattle.std.specs.Prelude.{ℕ, List, take};
+    ghost use Rattle.std.specs.Prelude.{ℕ, List, ◌++◌, ◌-◌, take, length, replicate};
     ghost use Rattle.text.specs.Text.{Written};
+    ghost use Rattle.text.specs.Whole.{length_back, bytes_back};
 
     ghost Value = { List ℕ };
 
     ghost view = { λ l. take l.len l.bytes };
 
     ghost invariant = { λ l. Written ROOM l.len l.bytes };
+
+    ghost inverse = { λ text. record { bytes = text ++ replicate (ROOM - length text) 0; len = length text } };
+
+    ghost inverse_ok = { λ l h i. record { bytes = bytes_back h i; len = length_back h i } };
 }
 
 // What fits is asked by each `put`: it is about a line and what is put to it, and no type of either could say it.

@@ -14,6 +14,7 @@ invariant_of-self g c =
     let end = line.len + more in
     let sized = c.copy_from_slice.ensures in
     record {
+      sized = search rules;
       within = search rules;
       behind =
           drop-put_mid line.len (end - line.len) line.bytes _ end (omega arith) (omega (arith, c.self.invariant)) (omega (arith, sized))

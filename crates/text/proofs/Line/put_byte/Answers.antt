@@ -11,6 +11,7 @@ pub invariant_of-self : goal.invariant_of-self
 invariant_of-self g c =
     let line = c.self.inside in
     record {
+      sized = search rules;
       within = search rules;
       behind =
           drop-set-lt (line.len + 1) line.bytes line.len c.args.byte (omega arith)
