@@ -1,2 +1,3 @@
--- Metrics: no metric is a NaN, so the score has bits.
+-- Metrics: no metric is a NaN, so the score has bits. Unique: each contract allows one outcome at most.
 pub mod Metrics
+pub mod Unique
