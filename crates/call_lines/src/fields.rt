@@ -46,9 +46,12 @@ pub fn parse(text: &[u8], most: usize) -> Option<u64>
     text.iter().try_fold(0, |value: u64, c| Some(value << 4 | u64::from(digit(*c)?)))
 }
 
-// The number that a field spells, 0 where it spells none.
+// The number that a text's last sixteen digits spell. What is no digit counts as a 0.
 pub fn number(text: &[u8]) -> u64 {
-    parse(text, 16).unwrap_or(0)
+    text.iter().fold(
+        0,
+        |value: u64, c| value << 4 | u64::from(digit(*c).unwrap_or(0)),
+    )
 }
 
 pub fn byte(text: &[u8]) -> u8 {
@@ -69,15 +72,13 @@ fn split_once(text: &[u8], at: u8) -> Option<(&[u8], &[u8])> {
 }
 
 // Puts bytes of two digits each into a room, from `start` on and as far as it goes, and answers where they end. By
-// place: digits behind the room are read too, where a zip with it would stop.
+// place: digits behind the room are read too, where a zip with it would stop. What stands before a pair that is none,
+// or within LONG, is put all the same.
 fn read_pairs(text: &[u8], into: &mut [u8], start: usize) -> Option<usize>
     ensures { IfSome result (λ end. start ≤ end) }
 {
     let end = start.checked_add(text.len() / 2)?;
-    if text.len() % 2 != 0 || LONG < end {
-        return None;
-    }
-    for (place, pair) in (start..end).zip(text.chunks_exact(2)) {
+    for (place, pair) in (start..end.min(LONG)).zip(text.chunks_exact(2)) {
         let [high, low] = pair else {
             return None;
         };
@@ -86,7 +87,7 @@ fn read_pairs(text: &[u8], into: &mut [u8], start: usize) -> Option<usize>
             into[place] = byte;
         }
     }
-    Some(end)
+    (text.len() % 2 == 0 && end <= LONG).then_some(end)
 }
 
 // Repeats the piece from `start` up to `end` until it makes so many bytes, and answers where they end.
@@ -115,10 +116,11 @@ fn read_bytes(text: &[u8], into: &mut [u8]) -> Option<usize> {
     let mut parts = text.split(|b| *b == b'(');
     let mut count = read_pairs(parts.next()?, into, 0)?;
     for part in parts {
-        let (piece, behind) = split_once(part, b'*')?;
-        let (digits, plain) = split_once(behind, b')')?;
         let start = count;
-        let end = read_pairs(piece, into, start)?;
+        // A piece is put before it is known to be closed: `fill` puts what can be read.
+        let end = read_pairs(part.split(|b| *b == b'*').next()?, into, start)?;
+        let (_, behind) = split_once(part, b'*')?;
+        let (digits, plain) = split_once(behind, b')')?;
         let last = repeat(into, start, end, parse(digits, 8)? as usize)?;
         count = read_pairs(plain, into, last)?;
     }
@@ -130,11 +132,15 @@ pub fn size(text: &[u8]) -> Option<usize> {
     read_bytes(text, &mut [])
 }
 
-// Puts the bytes that a text spells at the front of a room, and answers how many.
+// Puts the bytes that a text spells at the front of a room, and answers how many, as far as the room goes. Of a text of
+// two bytes or more that spells none, what can be read is put, and it counts as one byte more than any text spells.
 pub fn fill(text: &[u8], into: &mut [u8]) -> usize
     ensures { result ≤ length into.new }
 {
-    read_bytes(text, into).unwrap_or(0).min(into.len())
+    if text.len() < 2 {
+        return 0;
+    }
+    read_bytes(text, into).unwrap_or(LONG + 1).min(into.len())
 }
 
 // The same of the f32s that the bytes make, four bytes each.

@@ -1,6 +1,7 @@
 // How an answer's fields are printed: numbers and bytes in lower-case hex, one space before each field. They go to any
 // writer, and an error is the writer's: what was printed may then have gone to it in part.
-ghost use Rattle.std.specs.Prelude.{◌≡◌, []};
+ghost use Rattle.std.specs.Prelude.{◌≡◌, ◌<◌, ◌/◌, ◌%◌, [], ◌∷◌, OnErr};
+ghost use Rattle.call_lines.specs.Hex.{digit};
 
 use std::io;
 use std::io::Write;
@@ -28,7 +29,10 @@ impl<W: Write> Printer<W> {
         }
     }
 
-    fn hand_on(&mut self) -> io::Result<()> {
+    // After an error the text is as it was.
+    fn hand_on(&mut self) -> io::Result<()>
+        ensures { OnErr result (self.new.text ≡ self.old.text) }
+    {
         self.to.write_all(self.text.written())?;
         self.text = Line::new();
         Ok(())
@@ -75,15 +79,31 @@ fn print_run<W: Write>(to: &mut W, run: &[u8]) -> io::Result<()> {
         }
         _ => {
             for byte in run {
-                write!(to, "{byte:02x}")?;
+                to.write_all(&digits_of(*byte))?;
             }
             Ok(())
         }
     }
 }
 
-// Prints a space and a number, with zeros in front up to width digits.
+// A byte's two digits. By hand: by `{:02x}` a program that prints long fields takes up to twice as long and more.
+fn digits_of(byte: u8) -> [u8; 2]
+    ensures { result ≡ digit (byte / 16) ∷ digit (byte % 16) ∷ [] }
+{
+    [digit(byte / 16), digit(byte % 16)]
+}
+
+// 0 to 9, then a to f.
+fn digit(d: u8) -> u8
+    requires { d < 16 }
+    ensures { result ≡ digit d }
+{
+    if d < 10 { b'0' + d } else { b'a' + (d - 10) }
+}
+
+// Prints a space and a number, with zeros in front up to width digits, of which there are sixteen at most.
 pub fn print_number<W: Write>(to: &mut W, n: u64, width: usize) -> io::Result<()> {
+    let width = width.min(16);
     write!(to, " {n:0width$x}")
 }
 

@@ -1,0 +1,2 @@
+-- Hex: digits as answers print them.
+pub mod Hex
