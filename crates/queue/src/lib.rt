@@ -59,9 +59,18 @@ impl<const ROOM: usize> Queue<ROOM> {
         ensures { ring result ≡ put_one ROOM (ring self.entry) element }
     {
         let mut q = self;
-        q.slots[(q.head + q.count) % ROOM] = element;
-        q.count += 1;
+        q.add(element);
         q
+    }
+
+    // The same where the queue lies: by value each element of a run took a copy of the array.
+    fn add(&mut self, element: u8)
+        requires size { Size ROOM }
+        requires room { Room ROOM (ring self.old) 1 }
+        ensures { ring self.new ≡ put_one ROOM (ring self.old) element }
+    {
+        self.slots[(self.head + self.count) % ROOM] = element;
+        self.count += 1;
     }
 
     // The same element n times.
@@ -72,7 +81,7 @@ impl<const ROOM: usize> Queue<ROOM> {
     {
         let mut q = self;
         for _ in 0..n {
-            q = q.put(element);
+            q.add(element);
         }
         q
     }
@@ -85,7 +94,7 @@ impl<const ROOM: usize> Queue<ROOM> {
     {
         let mut q = self;
         for place in (0..len).rev() {
-            q = q.put(((word >> place) % 2) as u8);
+            q.add(((word >> place) % 2) as u8);
         }
         q
     }
@@ -118,10 +127,11 @@ impl<const ROOM: usize> Queue<ROOM> {
         ensures front { taken_said result ≡ taken ROOM (ring self.old) }
         ensures rest { ring self.new ≡ left ROOM (ring self.old) }
     {
-        let q = self.read();
-        if q.count == 0 {
+        // Before the queue is read, which takes a copy of the array.
+        if self.count % (ROOM + 1) == 0 {
             return None;
         }
+        let q = self.read();
         let front = q.front();
         *self = q.rest();
         Some(front)

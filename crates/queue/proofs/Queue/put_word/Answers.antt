@@ -7,7 +7,7 @@ use Rattle.queue.proofs.Queue.put_word.Goals as goal
 
 pub loop-place-preserved : goal.loop-place-preserved
 unfolding digits
-loop-place-preserved g c = filling_goes_on c.loop-place.invariant (omega arith) refl c.put-q.ensures
+loop-place-preserved g c = filling_goes_on c.loop-place.invariant (omega arith) refl c.add.ensures
 
 pub returns : goal.returns
 unfolding digits
