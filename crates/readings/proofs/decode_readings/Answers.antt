@@ -5,7 +5,8 @@ use Rattle.correlation.proofs.Answers.{not_prepared, bad_reading_lem, good_readi
 use Rattle.correlation.proofs.Checks.{call_decodable}
 use Rattle.correlation.proofs.Selected.{finds_selected}
 use Rattle.correlation.proofs.Used.{used_within, bad_few}
-use Rattle.refusal.specs.Answer.{accepted}
+use Rattle.refusal.specs.Answer.{accepted, refused}
+use Rattle.refusal.specs.Numbers.{bad_reading}
 use Rattle.refusal.proofs.Told.{handed_on}
 use Rattle.refusal.proofs.Over.{both_refused}
 use Rattle.readings.proofs.Used.{used_finite}
@@ -28,7 +29,7 @@ overflow_cast-result c =
 pub returns-in-Some : goal.returns-in-Some
 returns-in-Some c =
     let is = rw c.len.ensures at c.in_ok-ready.ensures in
-    both_refused (bad_reading_lem _ _ _ _ _ _ _ _ _ is c.in-Some.ensures) refl (search) (search)
+    both_refused (bad_reading_lem _ _ _ _ _ _ _ _ _ is c.in-Some.ensures) (ap (refused bad_reading) (omega arith)) (search) (search)
 
 pub decode-score-requires : goal.decode-score-requires
 decode-score-requires c =
